@@ -17,14 +17,12 @@ use Rattle.octets.proofs.Choice.{then_true, then_false}
 use Rattle.octets.proofs.ListOf.{list_of_get_d}
 use Rattle.packet.specs.Read.{header_of, type_two_parts, payload_start, payload}
 use Rattle.packet.specs.declared.Parts.{Parts}
-use Rattle.packet.specs.declared.Written.{Written}
+use Rattle.numbers.specs.Refusals.{Written}
 use Rattle.packet.proofs.ListLaws.{behind, found_part, found_byte}
 use Rattle.packet.proofs.ReadLaws.{start_most}
 use Rattle.packet.specs.Write.{Wide}
 use Rattle.packet.specs.Places.{address_width, hops_at, address_at, second_address_at, type_two_context_at, type_two_start}
 use Rattle.rules.specs.declared.Tally.{Tally}
-use Rattle.recording.specs.declared.Written.{Written as Recorded}
-use Rattle.saved.specs.declared.Saved.{Saved}
 use Rattle.crossing.specs.Answers.{fields_number, drop_number}
 use Rattle.crossing.specs.Packets.{parts_bytes, parts_in, payload_place, written_number}
 use Rattle.crossing.specs.Tallies.{tally_numbers, tally_in, tally_count}
@@ -96,7 +94,7 @@ module _ (w : Written) (fits : w.refusal < refusal_span) where
   length_back = digits_div w.length fits
 
 -- a recording's, and a saving's
-module _ (w : Recorded) (fits : w.refusal < refusal_span) where
+module _ (w : Written) (fits : w.refusal < refusal_span) where
   pub recorded_refusal_back : recorded_number w % refusal_span ≡ w.refusal
   unfolding recorded_number
   recorded_refusal_back = digits_mod w.length fits
@@ -105,7 +103,7 @@ module _ (w : Recorded) (fits : w.refusal < refusal_span) where
   unfolding recorded_number
   recorded_length_back = digits_div w.length fits
 
-module _ (s : Saved) (fits : s.refusal < refusal_span) where
+module _ (s : Written) (fits : s.refusal < refusal_span) where
   pub saved_refusal_back : saved_number s % refusal_span ≡ s.refusal
   unfolding saved_number
   saved_refusal_back = digits_mod s.length fits

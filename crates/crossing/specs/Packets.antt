@@ -4,7 +4,7 @@ use Rattle.octets.specs.Choice.{◌then◌otherwise◌}
 use Rattle.packet.specs.Read.{header_of, type_two_parts, payload_start}
 use Rattle.packet.specs.Write.{Writing}
 use Rattle.packet.specs.declared.Parts.{Parts}
-use Rattle.packet.specs.declared.Written.{Written}
+use Rattle.numbers.specs.Refusals.{Written}
 use Rattle.crossing.specs.Bits.{refusal_span}
 
 -- the parts in 35 bytes: header, hops, relay address, destination, context, at the places of a type 2 packet

@@ -1,10 +1,9 @@
 -- How an entry of a recording, a writing of one, and a replay's line cross to hosts.
 use Rattle.std.specs.Prelude.{ℕ, ◌+◌, ◌*◌, List, [], ◌∷◌, ◌≡◌}
 use Rattle.octets.specs.Choice.{◌then◌otherwise◌}
-use Rattle.recording.specs.Reader.{is_there, fields_of}
+use Rattle.recording.specs.Reader.{Fields, is_there, fields_of}
 use Rattle.recording.specs.Writer.{Writing}
-use Rattle.recording.specs.declared.Fields.{Fields}
-use Rattle.recording.specs.declared.Written.{Written}
+use Rattle.numbers.specs.Refusals.{Written}
 use Rattle.text.specs.Text.{text_of}
 use Rattle.replaying.specs.Promise.{StepOn}
 use Rattle.crossing.specs.Tallies.{tally_numbers}

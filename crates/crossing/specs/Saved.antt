@@ -2,12 +2,12 @@
 use Rattle.std.specs.Prelude.{ℕ, ◌+◌, ◌*◌, List, ◌≡◌}
 use Rattle.saved.specs.Save.{SavedOn}
 use Rattle.saved.specs.Load.{LoadedOn}
-use Rattle.saved.specs.declared.Saved.{Saved}
+use Rattle.numbers.specs.Refusals.{Written}
 use Rattle.crossing.specs.Tallies.{tally_numbers}
 use Rattle.crossing.specs.Bits.{refusal_span}
 
 -- a saving as one number: the refusal or 0 in the low 16 bits, the file's length in those above
-unfoldable pub saved_number : Saved → ℕ
+unfoldable pub saved_number : Written → ℕ
 saved_number s = s.length * refusal_span + s.refusal
 
 -- what a saving returned and left is this

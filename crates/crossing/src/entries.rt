@@ -1,19 +1,20 @@
 // An entry of a recording as hosts get it: five numbers.
 ghost use Rattle.std.specs.Prelude.{◌≡◌};
+ghost use Rattle.recording.specs.Reader.{fields_as};
 ghost use Rattle.crossing.specs.Recordings.{entry_numbers};
 
-use recording::Fields;
+use recording::EntryHead;
 
 // An entry in five numbers.
 #[tactic(auto, unfolding(crate::specs::Recordings::entry_numbers))]
-pub fn entry_numbers(fields: Fields) -> [u64; 5]
-    ensures { result ≡ entry_numbers fields }
+pub fn entry_numbers(head: EntryHead) -> [u64; 5]
+    ensures { result ≡ entry_numbers (fields_as (Some head)) }
 {
     [
-        fields.clock,
-        u64::from(fields.port),
-        u64::from(fields.word),
-        fields.start as u64,
-        fields.length as u64,
+        head.clock,
+        u64::from(head.port),
+        u64::from(head.word),
+        head.start as u64,
+        head.length as u64,
     ]
 }

@@ -13,7 +13,7 @@ use Rattle.octets.specs.Index.{◌and◌}
 use Rattle.octets.specs.Choice.{◌then◌otherwise◌, ◌or◌}
 use Rattle.octets.proofs.Choice.{then_true, then_false}
 use Rattle.sha256.specs.Sha256.{longest_message, answer}
-use Rattle.sha256.specs.declared.Digest.{Digest}
+use Rattle.sha256.specs.Sha256.{Digest}
 use Rattle.sha256.proofs.Promise.{answer_short, answer_long}
 use Rattle.packet.specs.Header.{access_code, type_two}
 use Rattle.packet.specs.Read.{header_of, longest_packet, reading_rows, reading_refusal, reading}

@@ -11,7 +11,7 @@ use Rattle.octets.proofs.Choice.{then_true, then_false}
 use Rattle.packet.specs.Read.{header_of, payload_start, payload, longest_packet}
 use Rattle.packet.specs.Write.{Writing, writing, writing_refusal}
 use Rattle.packet.specs.declared.Parts.{Parts}
-use Rattle.packet.specs.declared.Written.{Written}
+use Rattle.numbers.specs.Refusals.{Written}
 use Rattle.packet.proofs.ReadLaws.{payload_least}
 use Rattle.packet.proofs.WriteLaws.{writable, writing_done, writing_refused}
 use Rattle.crossing.specs.Packets.{payload_place}

@@ -10,12 +10,11 @@ use borrow.Author.Tests.{ltb-true, ltb-false}
 use Rattle.octets.proofs.Choice.{then_true, then_false}
 use Rattle.recording.specs.Reader.{fields_of}
 use Rattle.recording.specs.Writer.{writing_refusal, Writing, writing}
-use Rattle.recording.specs.declared.Fields.{Fields}
-use Rattle.recording.specs.declared.Written.{Written}
+use Rattle.recording.specs.Reader.{Fields}
+use Rattle.numbers.specs.Refusals.{Written}
 use Rattle.recording.specs.Format.{longest_file}
 use Rattle.recording.proofs.WriteLaws.{writable, writing_done, writing_refused}
-use Rattle.replaying.specs.Promise.{StepOn}
-use Rattle.replaying.specs.declared.Stepped.{Stepped}
+use Rattle.replaying.specs.Promise.{StepOn, Step}
 use Rattle.replaying.proofs.StepLaws.{found}
 use Rattle.text.specs.Text.{text_of}
 use Rattle.crossing.specs.Recordings.{entry_numbers, entry_refusal, entry_after, line_after}
@@ -54,12 +53,12 @@ recorded_most w g bodies room e = go (ltb 0 refusal) refl
         omega (arith, size _ (writing_done g bodies room zero), (writable g bodies (length room) zero).short)
 
 -- ---- what a step returned, and the caller's line after it
-module _ (s : StepOn) (r : Stepped) (e : r ≡ record { there = s.there; answer = s.answer; tally = s.tally; line = text_of s.line }) (old : List ℕ) where
+module _ (s : StepOn) (r : Step) (e : r ≡ record { there = s.there; answer = s.answer; tally = s.tally; line = text_of s.line }) (old : List ℕ) where
   pub line_written : r.there ≡ true → r.line.bytes ≡ line_after s old
   unfolding line_after
   line_written t =
-      ap (λ (x : Stepped). x.line.bytes) e ∙ sym (then_true (text_of s.line).bytes old (ap (λ (x : Stepped). x.there) (sym e) ∙ t))
+      ap (λ (x : Step). x.line.bytes) e ∙ sym (then_true (text_of s.line).bytes old (ap (λ (x : Step). x.there) (sym e) ∙ t))
 
   pub line_stays : r.there ≡ false → old ≡ line_after s old
   unfolding line_after
-  line_stays t = sym (then_false (text_of s.line).bytes old (ap (λ (x : Stepped). x.there) (sym e) ∙ t))
+  line_stays t = sym (then_false (text_of s.line).bytes old (ap (λ (x : Step). x.there) (sym e) ∙ t))

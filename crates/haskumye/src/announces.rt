@@ -1,19 +1,23 @@
 // Announces of the box's own addresses. Both calls return one number: in its low 16 bits the refusal or 0, in those
 // above the length.
 ghost use Rattle.std.specs.Prelude.{◌≡◌, ◌≤◌};
-ghost use Rattle.packet.specs.Read.{longest_packet};
+ghost use Rattle.numbers.specs.Refusals.{written_as};
+ghost use Rattle.recording.specs.Format.{longest_file};
 ghost use Rattle.announcing.specs.Announcing.{make_announce, signing, building};
 ghost use Rattle.crossing.specs.Packets.{written_number, Writes};
 
 use crossing::REFUSAL_SPAN;
-use packet::Written;
+use numbers::Refusal;
 
-// What was written as one number of 32 bits.
-fn written_number(written: Written) -> u32
-    requires { written.length ≤ longest_packet }
-    ensures { result ≡ written_number written }
+// What was written, by any writer, as one number of 32 bits.
+pub fn written_number(written: Result<usize, Refusal>) -> u32
+    requires { (written_as written).length ≤ longest_file }
+    ensures { result ≡ written_number (written_as written) }
 {
-    (written.length as u32) * REFUSAL_SPAN + (written.refusal as u32)
+    match written {
+        Ok(length) => (length as u32) * REFUSAL_SPAN,
+        Err(refusal) => u32::from(refusal.number()),
+    }
 }
 
 // Lays out the bytes that the host signs, at the start of the room, which a refusal leaves as it was. An empty ratchet
@@ -33,10 +37,9 @@ pub extern "C" fn haskumye_announce_signing_bytes(
         ratchet.now app_data.now) room.old)
         result room.new }
 {
-    let written = announcing::signing_bytes(
+    written_number(announcing::signing_bytes(
         keys, name_hash, random, clock, ratchet, app_data, room,
-    );
-    written_number(written)
+    ))
 }
 
 // Builds the announce with the host's signature, at the start of the room, which a refusal leaves as it was.
@@ -56,8 +59,7 @@ pub extern "C" fn haskumye_build_announce(
         ratchet.now app_data.now) signature.now room.old)
         result room.new }
 {
-    let written = announcing::build(
+    written_number(announcing::build(
         keys, name_hash, random, clock, ratchet, app_data, signature, room,
-    );
-    written_number(written)
+    ))
 }

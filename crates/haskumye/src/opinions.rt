@@ -9,6 +9,7 @@ ghost use Rattle.haskumye.specs.Opinions.{OpinesBy};
 
 use super::packets::haskumye_payload_start;
 use crossing::answer_number;
+use numbers::refused_number;
 use opinion::LOG_SIZE;
 
 // A log of a relay with its own address, in which nothing is listed.
@@ -48,7 +49,7 @@ pub extern "C" fn haskumye_opinion_set_port(
 ) -> u8
     ensures { Settles log.old (sets_port port (eqb on 1) mode size) result log.new }
 {
-    opinion::set_port(log, port, on == 1, mode, size)
+    refused_number(opinion::set_port(log, port, on == 1, mode, size))
 }
 
 // Sets the announce rate: target interval, grace and penalty.
@@ -61,7 +62,7 @@ pub extern "C" fn haskumye_opinion_set_announce_rate(
 ) -> u8
     ensures { Settles log.old (sets_rate target grace penalty) result log.new }
 {
-    opinion::set_rate(log, target, grace, penalty)
+    refused_number(opinion::set_rate(log, target, grace, penalty))
 }
 
 // Adds a local address.
@@ -70,7 +71,7 @@ pub extern "C" fn haskumye_opinion_add_local(log: &mut [u8; LOG_SIZE], address: 
     ensures { Settles log.old (adds address.now) result log.new }
 {
     let bytes = *address;
-    opinion::add_local(log, bytes)
+    refused_number(opinion::add_local(log, bytes))
 }
 
 // Removes a local address.
@@ -79,7 +80,7 @@ pub extern "C" fn haskumye_opinion_remove_local(log: &mut [u8; LOG_SIZE], addres
     ensures { Settles log.old (removes address.now) result log.new }
 {
     let bytes = *address;
-    opinion::remove_local(log, bytes)
+    refused_number(opinion::remove_local(log, bytes))
 }
 
 // Marks a destination's live path unresponsive.
@@ -92,7 +93,7 @@ pub extern "C" fn haskumye_opinion_mark_path_unresponsive(
     ensures { Settles log.old (marks destination.now clock) result log.new }
 {
     let address = *destination;
-    opinion::mark_path_unresponsive(log, address, clock)
+    refused_number(opinion::mark_path_unresponsive(log, address, clock))
 }
 
 // Renumbers the ports.
@@ -101,5 +102,5 @@ pub extern "C" fn haskumye_opinion_renumber(log: &mut [u8; LOG_SIZE], map: &[u8;
     ensures { Settles log.old (renumbers map.now) result log.new }
 {
     let bytes = *map;
-    opinion::renumber(log, bytes)
+    refused_number(opinion::renumber(log, bytes))
 }

@@ -9,7 +9,8 @@ ghost use Rattle.text.specs.Text.{text_of};
 ghost use Rattle.crossing.specs.Packets.{parts_in, payload_place, Writes};
 ghost use Rattle.haskumye.specs.Packets.{parts_after, hash_after, link_id_after};
 
-use crossing::{REFUSAL_SPAN, parts_bytes};
+use super::announces::written_number;
+use crossing::parts_bytes;
 
 // Reads a packet against a size: its refusal, 0 for none. Its parts go to the buffer, which a refusal leaves as it was.
 #[unsafe(no_mangle)]
@@ -17,15 +18,13 @@ pub extern "C" fn haskumye_read(packet: &[u8], size: u64, parts: &mut [u8; 35]) 
     ensures { (result ≡ (reading size packet.now).refusal)
         × (parts.new ≡ parts_after size packet.now parts.old) }
 {
-    let reading = packet::read(packet, size as usize);
-    let refusal = reading.refusal;
-    if refusal == 0 {
-        let q = reading.parts;
-        let bytes = parts_bytes(q);
-        *parts = bytes;
-        return 0;
+    match packet::read(packet, size as usize) {
+        Ok(read) => {
+            *parts = parts_bytes(read);
+            0
+        }
+        Err(refusal) => refusal.number(),
     }
-    refusal
 }
 
 // Where the payload of a packet starts, at most its length.
@@ -33,8 +32,7 @@ pub extern "C" fn haskumye_read(packet: &[u8], size: u64, parts: &mut [u8; 35]) 
 pub extern "C" fn haskumye_payload_start(packet: &[u8]) -> usize
     ensures { result ≡ payload_place packet.now }
 {
-    let payload = packet::payload(packet);
-    packet.len() - payload.len()
+    packet.len() - packet::payload(packet).len()
 }
 
 // Writes a packet at the start of the output, which a refusal leaves as it was.
@@ -44,9 +42,7 @@ pub extern "C" fn haskumye_write(parts: &[u8; 35], payload: &[u8], output: &mut 
     ensures { Writes (writing (parts_in parts.now) payload.now output.old)
         result output.new }
 {
-    let q = packet::type_two_parts(parts);
-    let written = packet::write(q, payload, output);
-    (written.length as u32) * REFUSAL_SPAN + (written.refusal as u32)
+    written_number(packet::write(packet::type_two_parts(parts), payload, output))
 }
 
 // The packet hash: the refusal, 0 for none. A refusal leaves the buffer as it was.
@@ -55,14 +51,13 @@ pub extern "C" fn haskumye_packet_hash(packet: &[u8], hash: &mut [u8; 32]) -> u8
     ensures { (result ≡ (packet_hash_answer longest_packet packet.now).refusal)
         × (hash.new ≡ hash_after packet.now hash.old) }
 {
-    let answer = packet::packet_hash(packet);
-    let refusal = answer.refusal;
-    if refusal == 0 {
-        let bytes = answer.bytes;
-        *hash = bytes;
-        return 0;
+    match packet::packet_hash(packet) {
+        Ok(bytes) => {
+            *hash = bytes;
+            0
+        }
+        Err(refusal) => refusal.number(),
     }
-    refusal
 }
 
 // The link id: the refusal, 0 for none. A refusal leaves the buffer as it was.
@@ -71,14 +66,13 @@ pub extern "C" fn haskumye_link_id(packet: &[u8], id: &mut [u8; 16]) -> u8
     ensures { (result ≡ (link_id_answer longest_packet packet.now).refusal)
         × (id.new ≡ link_id_after packet.now id.old) }
 {
-    let answer = packet::link_id(packet);
-    let refusal = answer.refusal;
-    if refusal == 0 {
-        let bytes = answer.bytes;
-        *id = bytes;
-        return 0;
+    match packet::link_id(packet) {
+        Ok(bytes) => {
+            *id = bytes;
+            0
+        }
+        Err(refusal) => refusal.number(),
     }
-    refusal
 }
 
 // The destination that the keys and the name hash of an announce's payload give.
@@ -86,8 +80,7 @@ pub extern "C" fn haskumye_link_id(packet: &[u8], id: &mut [u8; 16]) -> u8
 pub extern "C" fn haskumye_announced_destination(payload: &[u8], destination: &mut [u8; 16])
     ensures { destination.new ≡ announced_destination payload.now }
 {
-    let address = packet::announced_destination(payload);
-    *destination = address;
+    *destination = packet::announced_destination(payload);
 }
 
 // The least payload of an announce of this header.
@@ -103,8 +96,7 @@ pub extern "C" fn haskumye_least_announce(header: u8) -> usize
 pub extern "C" fn haskumye_emission(blob: &[u8; 10]) -> u64
     ensures { result ≡ emission_of blob.now }
 {
-    let bytes = *blob;
-    packet::emission(bytes)
+    packet::emission(*blob)
 }
 
 // The showing program's line of a packet: its length, and the text at the start of the buffer with zeros behind it.

@@ -2,8 +2,45 @@
 // stands in the buffer lent, 7 where the tables are refused, and 255 where there is none: a place outside its table or
 // an empty one, a number that is no port, no live path. Then the buffer stays too.
 ghost use Rattle.std.specs.Prelude.{◌≡◌};
+ghost use Rattle.numbers.specs.Refusals.{refused_number};
+ghost use Rattle.numbers.specs.Values.{value_or};
 ghost use Rattle.rules.specs.Questions.{port_settings, rate_settings, local_at, path_at, link_at, live_path, live_returns, live_hashes, the_last_clock, whether_word_matters};
 ghost use Rattle.tables.specs.Asked.{tell_on, told_number, Tells, TellsNumber};
+ghost use Rattle.status.specs.Put.{asked_number, asked_or};
+
+use numbers::Refusal;
+
+// The numbers of two answers that are no refusal's: there is nothing to tell, and the signature word matters.
+const NOTHING: u8 = 255;
+
+const MATTERS: u8 = 255;
+
+// Puts what is told into the buffer lent, and gives the answer's number.
+fn put<T: Copy>(answer: Result<T, Refusal>, room: &mut T) -> u8
+    ensures { (result ≡ refused_number answer) × (room.new ≡ value_or answer room.old) }
+{
+    match answer {
+        Ok(told) => {
+            *room = told;
+            0
+        }
+        Err(refusal) => refusal.number(),
+    }
+}
+
+// The same of an answer that may tell nothing.
+fn put_some<T: Copy>(answer: Result<Option<T>, Refusal>, room: &mut T) -> u8
+    ensures { (result ≡ asked_number answer) × (room.new ≡ asked_or answer room.old) }
+{
+    match answer {
+        Ok(Some(told)) => {
+            *room = told;
+            0
+        }
+        Ok(None) => NOTHING,
+        Err(refusal) => refusal.number(),
+    }
+}
 
 // A port's settings: on, 1 or 0, its mode, and its size in two bytes, the highest first.
 #[unsafe(no_mangle)]
@@ -11,7 +48,7 @@ pub extern "C" fn haskumye_port(tables: &[u8], port: u64, settings: &mut [u8; 4]
     ensures { Tells (tell_on tables.now (port_settings port))
         settings.old result settings.new }
 {
-    status::port_settings(tables, port, settings)
+    put_some(status::port_settings(tables, port), settings)
 }
 
 // The announce rate's settings: target interval, grace, penalty, each as 4 bytes, the highest first. Never none.
@@ -20,7 +57,7 @@ pub extern "C" fn haskumye_announce_rate(tables: &[u8], settings: &mut [u8; 12])
     ensures { Tells (tell_on tables.now rate_settings)
         settings.old result settings.new }
 {
-    status::rate_settings(tables, settings)
+    put(status::rate_settings(tables), settings)
 }
 
 // The local address at a place.
@@ -29,7 +66,7 @@ pub extern "C" fn haskumye_local(tables: &[u8], place: u64, address: &mut [u8; 1
     ensures { Tells (tell_on tables.now (local_at place))
         address.old result address.new }
 {
-    status::local_at(tables, place, address)
+    put_some(status::local_at(tables, place), address)
 }
 
 // The path at a place, live or not: destination, port, hops, next hop, expiry, last accepted announce, violations,
@@ -39,7 +76,7 @@ pub extern "C" fn haskumye_path(tables: &[u8], place: u64, path: &mut [u8; 61]) 
     ensures { Tells (tell_on tables.now (path_at place))
         path.old result path.new }
 {
-    status::path_at(tables, place, path)
+    put_some(status::path_at(tables, place), path)
 }
 
 // A destination's live path at a clock.
@@ -54,7 +91,7 @@ pub extern "C" fn haskumye_live_path(
         path.old result path.new }
 {
     let address = *destination;
-    status::live_path(tables, address, clock, path)
+    put_some(status::live_path(tables, address, clock), path)
 }
 
 // The link at a place, live or not: id, asking port, answering port, taken hops, remaining hops, proved, 1 or 0, and
@@ -64,7 +101,7 @@ pub extern "C" fn haskumye_link(tables: &[u8], place: u64, link: &mut [u8; 29]) 
     ensures { Tells (tell_on tables.now (link_at place))
         link.old result link.new }
 {
-    status::link_at(tables, place, link)
+    put_some(status::link_at(tables, place), link)
 }
 
 // The number of live return records at a clock.
@@ -73,7 +110,7 @@ pub extern "C" fn haskumye_live_returns(tables: &[u8], clock: u64, count: &mut u
     ensures { TellsNumber (tell_on tables.now (live_returns clock))
         count.old result count.new }
 {
-    status::live_returns(tables, clock, count)
+    put(status::live_returns(tables, clock), count)
 }
 
 // The number of live hashes at a clock.
@@ -82,7 +119,7 @@ pub extern "C" fn haskumye_live_hashes(tables: &[u8], clock: u64, count: &mut u6
     ensures { TellsNumber (tell_on tables.now (live_hashes clock))
         count.old result count.new }
 {
-    status::live_hashes(tables, clock, count)
+    put(status::live_hashes(tables, clock), count)
 }
 
 // The last accepted clock.
@@ -91,7 +128,7 @@ pub extern "C" fn haskumye_last_clock(tables: &[u8], clock: &mut u64) -> u8
     ensures { TellsNumber (tell_on tables.now the_last_clock)
         clock.old result clock.new }
 {
-    status::last_clock(tables, clock)
+    put(status::last_clock(tables), clock)
 }
 
 // Whether the signature word matters for a packet call with an output of `room` bytes. A refusal's number, as that call
@@ -107,5 +144,9 @@ pub extern "C" fn haskumye_signature_matters(
     ensures { result
         ≡ told_number (tell_on tables.now (whether_word_matters packet.now port clock room)) }
 {
-    relay::signature_matters(packet, port, clock, tables, room)
+    match relay::signature_matters(packet, port, clock, tables, room) {
+        Ok(true) => MATTERS,
+        Ok(false) => 0,
+        Err(refusal) => refusal.number(),
+    }
 }

@@ -8,16 +8,17 @@ ghost use Rattle.crossing.specs.Recordings.{entry_refusal, entry_after, Records,
 ghost use Rattle.crossing.specs.Tallies.{tally_in};
 ghost use Rattle.crossing.specs.Packets.{payload_place};
 
+use super::announces::written_number;
 use super::packets::haskumye_payload_start;
-use crossing::{REFUSAL_SPAN, answer_number, tally_in, tally_numbers};
-use numbers::refusals;
+use crossing::{answer_number, entry_numbers, tally_in, tally_numbers};
+use numbers::{Refusal, refused_number};
 
 // The refusal of a recording, 20, 21, 22 or 23, or 0.
 #[unsafe(no_mangle)]
 pub extern "C" fn haskumye_check_recording(file: &[u8]) -> u8
     ensures { result ≡ file_refusal file.now }
 {
-    recording::check(file)
+    refused_number(recording::check(file))
 }
 
 // How many entries a recording says it has, 0 where it is too short to say.
@@ -35,13 +36,11 @@ pub extern "C" fn haskumye_recording_entry(file: &[u8], index: u64, entry: &mut 
     ensures { (result ≡ entry_refusal file.now index)
         × (entry.new ≡ entry_after file.now index entry.old) }
 {
-    let fields = recording::entry(file, index as usize);
-    if fields.there {
-        let numbers = crossing::entry_numbers(fields);
-        *entry = numbers;
-        return 0;
-    }
-    refusals::FILE_PLACE
+    let Some(head) = recording::entry(file, index as usize) else {
+        return Refusal::FilePlace.number();
+    };
+    *entry = entry_numbers(head);
+    0
 }
 
 // Writes the recording of these entries and bodies at the start of the room, which a refusal leaves as it was.
@@ -51,8 +50,7 @@ pub extern "C" fn haskumye_write_recording(entries: &[u8], bodies: &[u8], room: 
     ensures { Records (writing entries.now bodies.now room.old)
         result room.new }
 {
-    let written = recording::write(entries, bodies, room);
-    (written.length as u32) * REFUSAL_SPAN + (written.refusal as u32)
+    written_number(recording::write(entries, bodies, room))
 }
 
 // The packet call of entry `index` of a recording, with an output of its own: its answer's number, as
@@ -71,19 +69,14 @@ pub extern "C" fn haskumye_replay_entry(
         (payload_place (body_of file.now index)) line.old
         result tally.new tables.new line.new }
 {
-    let counts = *tally;
-    let stepped = replaying::step(file, index as usize, tables, tally_in(counts));
-    let answer = stepped.answer;
-    let after = stepped.tally;
-    if stepped.there {
-        let text = stepped.line;
+    let stepped = replaying::step(file, index as usize, tables, tally_in(*tally));
+    if let Some(text) = stepped.line {
         let bytes = text.bytes;
         *line = bytes;
     }
-    let numbers = tally_numbers(after);
-    *tally = numbers;
+    *tally = tally_numbers(stepped.tally);
     answer_number(
-        answer,
+        stepped.answer,
         haskumye_payload_start(recording::body(file, index as usize)),
     )
 }

@@ -25,8 +25,10 @@ pub extern "C" fn haskumye_save(tables: &[u8], tally: &[u32; 6], room: &mut [u8]
         result room.new }
 {
     let counts = *tally;
-    let saved = saved::save(tables, tally_in(counts), room);
-    (saved.length as u64) * WIDE_REFUSAL_SPAN + octets::wide(saved.refusal)
+    match saved::save(tables, tally_in(counts), room) {
+        Ok(length) => length as u64 * WIDE_REFUSAL_SPAN,
+        Err(refusal) => u64::from(refusal.number()),
+    }
 }
 
 // Sets tables and tally to what the file holds, and returns 0; or a refusal's number, and both stay.
@@ -35,9 +37,11 @@ pub extern "C" fn haskumye_load(file: &[u8], tables: &mut [u8], tally: &mut [u32
     ensures { LoadsAs (load_on file.now tables.old (tally_in tally.old))
         result tables.new tally.new }
 {
-    let counts = *tally;
-    let loaded = saved::load(file, tables, tally_in(counts));
-    let after = loaded.tally;
-    *tally = tally_numbers(after);
-    loaded.refusal
+    match saved::load(file, tables) {
+        Ok(held) => {
+            *tally = tally_numbers(held);
+            0
+        }
+        Err(refusal) => refusal.number(),
+    }
 }

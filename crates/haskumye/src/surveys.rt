@@ -5,6 +5,7 @@ ghost use Rattle.std.specs.Prelude.{◌≡◌};
 ghost use Rattle.text.specs.Text.{text_of};
 ghost use Rattle.surveying.specs.Promise.{start_on, recording_on, Surveys, line_at};
 
+use numbers::refused_number;
 use surveying::{COUNTER_COUNT, REFUSAL_COUNT};
 use tables::places::TABLE_SIZE;
 
@@ -22,7 +23,7 @@ pub extern "C" fn haskumye_survey_begin(
         refusals.old)
         result start.new work.new counts.new refusals.new }
 {
-    surveying::begin(file, start, work, counts, refusals)
+    refused_number(surveying::begin(file, start, work, counts, refusals))
 }
 
 // Replays a recording from the start and counts it. Refusals 29, a 17th, then 20, 21, 22, 23: noted for its line, and
@@ -40,7 +41,7 @@ pub extern "C" fn haskumye_survey_recording(
         refusals.old)
         result start.now work.new counts.new refusals.new }
 {
-    surveying::add_recording(file, start, work, counts, refusals)
+    refused_number(surveying::add_recording(file, start, work, counts, refusals))
 }
 
 // The survey's line at a place, 0 to 48, with its line feed: its length, and the line at the start of the buffer with

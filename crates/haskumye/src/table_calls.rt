@@ -7,7 +7,8 @@ ghost use Rattle.settings.specs.Calls.{fresh_on, set_port_on, set_rate_on, add_l
 ghost use Rattle.renumbering.specs.Calls.{renumber_on};
 ghost use Rattle.haskumye.specs.Tables.{interface_version, tables_refusal};
 
-use numbers::refusals;
+use numbers::refused_number;
+use tables::check_tables;
 use tables::places::TABLE_SIZE;
 
 // The number of the interface that include/haskumye.h declares.
@@ -31,10 +32,7 @@ pub extern "C" fn haskumye_table_size() -> usize
 pub extern "C" fn haskumye_check_tables(tables: &[u8]) -> u8
     ensures { result ≡ tables_refusal tables.now }
 {
-    if tables::check(tables) {
-        return refusals::NONE;
-    }
-    refusals::TABLES
+    refused_number(check_tables(tables))
 }
 
 // The tables of a relay with its own address, all ports off, boundary and of size 500, clock 0, tables empty.
@@ -43,7 +41,7 @@ pub extern "C" fn haskumye_fresh(tables: &mut [u8], own: &[u8; 16]) -> u8
     ensures { Returns (fresh_on tables.old own.now) result tables.new }
 {
     let address = *own;
-    settings::fresh(tables, address)
+    refused_number(settings::fresh(tables, address))
 }
 
 // Sets a port on, by 1, or off, by any other number, its mode and its size.
@@ -57,7 +55,7 @@ pub extern "C" fn haskumye_set_port(
 ) -> u8
     ensures { Returns (set_port_on tables.old port (eqb on 1) mode size) result tables.new }
 {
-    settings::set_port(tables, port, on == 1, mode, size)
+    refused_number(settings::set_port(tables, port, on == 1, mode, size))
 }
 
 // Sets the announce rate: target interval, grace and penalty.
@@ -70,7 +68,7 @@ pub extern "C" fn haskumye_set_announce_rate(
 ) -> u8
     ensures { Returns (set_rate_on tables.old target grace penalty) result tables.new }
 {
-    settings::set_rate(tables, target, grace, penalty)
+    refused_number(settings::set_rate(tables, target, grace, penalty))
 }
 
 // Adds a local address, in the lowest empty place.
@@ -79,7 +77,7 @@ pub extern "C" fn haskumye_add_local(tables: &mut [u8], address: &[u8; 16]) -> u
     ensures { Returns (add_local_on tables.old address.now) result tables.new }
 {
     let bytes = *address;
-    settings::add_local(tables, bytes)
+    refused_number(settings::add_local(tables, bytes))
 }
 
 // Removes a local address: its place is emptied.
@@ -88,7 +86,7 @@ pub extern "C" fn haskumye_remove_local(tables: &mut [u8], address: &[u8; 16]) -
     ensures { Returns (remove_local_on tables.old address.now) result tables.new }
 {
     let bytes = *address;
-    settings::remove_local(tables, bytes)
+    refused_number(settings::remove_local(tables, bytes))
 }
 
 // Marks a destination's live path unresponsive, and sets the last clock.
@@ -101,7 +99,7 @@ pub extern "C" fn haskumye_mark_path_unresponsive(
     ensures { Returns (mark_on tables.old destination.now clock) result tables.new }
 {
     let address = *destination;
-    settings::mark_path_unresponsive(tables, address, clock)
+    refused_number(settings::mark_path_unresponsive(tables, address, clock))
 }
 
 // Replaces every stored port by its image, and moves each port's settings with it.
@@ -110,5 +108,5 @@ pub extern "C" fn haskumye_renumber(tables: &mut [u8], map: &[u8; 16]) -> u8
     ensures { Returns (renumber_on tables.old map.now) result tables.new }
 {
     let bytes = *map;
-    renumbering::renumber(tables, bytes)
+    refused_number(renumbering::renumber(tables, bytes))
 }

@@ -14,7 +14,6 @@ ghost use Rattle.replay.specs.Replayed.{replayed};
 
 use console::{print, read_file, zeros};
 use recording::{LONGEST_FILE, LONGEST_SAVED};
-use replaying::new_tally;
 use rules::Tally;
 use std::env::Env;
 use std::io;
@@ -45,7 +44,9 @@ fn replay<W: Write>(out: &mut W, file: &[u8], tables: &mut [u8], counts: Tally) 
     let mut printed = Ok(());
     for i in 0..recording::count(file) {
         let stepped = replaying::step(file, i, tables, tally);
-        printed = printed.and(print(out, stepped.line));
+        if let Some(line) = stepped.line {
+            printed = printed.and(print(out, line));
+        }
         tally = stepped.tally;
     }
     printed
@@ -57,11 +58,10 @@ fn replay_over<W: Write>(out: &mut W, stored: &[u8], file: &[u8]) -> io::Result<
     ensures { OnOk result (Appends (W.contents out.old) (W.contents out.new) (replayed stored.now file.now)) }
 {
     let mut tables = [0u8; TABLE_SIZE];
-    let loaded = saved::load(stored, &mut tables, new_tally());
-    if loaded.refusal != 0 {
-        return print(out, tables_refused(loaded.refusal));
+    match saved::load(stored, &mut tables) {
+        Ok(tally) => replay(out, file, &mut tables, tally),
+        Err(refusal) => print(out, tables_refused(refusal.number())),
     }
-    replay(out, file, &mut tables, loaded.tally)
 }
 
 // Answers a recording. The saved relay is read only where the recording isn't refused.
@@ -72,9 +72,8 @@ fn answer<R: Env + Files + Eprint + Alloc, W: Write>(
 ) -> io::Result<()>
     ensures { (stored : List ℕ) × OnOk result (Appends (W.contents out.old) (W.contents out.new) (replayed stored file.now)) }
 {
-    let refusal = recording::check(file);
-    if refusal != 0 {
-        return print(out, text::refused_line(refusal));
+    if let Err(refusal) = recording::check(file) {
+        return print(out, text::refused_line(refusal.number()));
     }
     let mut stored: [u8; SAVED_ROOM] = zeros();
     let held = read_file(rt, 1, &mut stored);

@@ -28,7 +28,8 @@ const SAVED_ROOM: usize = LONGEST_SAVED + 1;
 
 const RECORDING_ROOM: usize = LONGEST_FILE + 1;
 
-// Surveys the recordings that the arguments name, one after another. A 17th ends the reading, and isn't read.
+// Surveys the recordings that the arguments name, one after another. A 17th ends the reading, and isn't read. The lines
+// have the refusals.
 fn read_recordings<R: Env + Files + Eprint + Alloc>(
     rt: &R,
     start: &[u8; TABLE_SIZE],
@@ -44,10 +45,10 @@ fn read_recordings<R: Env + Files + Eprint + Alloc>(
             return;
         }
         let size = read_file(rt, i, &mut file);
-        surveying::add_recording(&file[..size], start, work, counts, refusals);
+        let _ = surveying::add_recording(&file[..size], start, work, counts, refusals);
     }
     if has_argument(rt, RECORDINGS_FROM + RECORDING_LIMIT) {
-        surveying::add_recording(&[], start, work, counts, refusals);
+        let _ = surveying::add_recording(&[], start, work, counts, refusals);
     }
 }
 
@@ -76,18 +77,19 @@ fn survey_site<R: Env + Files + Eprint + Alloc, W: Write>(rt: &R, out: &mut W) -
     let mut counts = [0u64; COUNTER_COUNT];
     let mut refusals = [0u8; REFUSAL_COUNT];
     let held = read_file(rt, 1, &mut stored);
-    let refusal = surveying::begin(
+    match surveying::begin(
         &stored[..held],
         &mut start,
         &mut work,
         &mut counts,
         &mut refusals,
-    );
-    if refusal != 0 {
-        return print(out, surveying::settings_refused(refusal));
+    ) {
+        Ok(()) => {
+            read_recordings(rt, &start, &mut work, &mut counts, &mut refusals);
+            print_lines(out, &counts, &refusals)
+        }
+        Err(refusal) => print(out, surveying::settings_refused(refusal.number())),
     }
-    read_recordings(rt, &start, &mut work, &mut counts, &mut refusals);
-    print_lines(out, &counts, &refusals)
 }
 
 fn main(rt: HostRuntime) -> io::Result<()> {

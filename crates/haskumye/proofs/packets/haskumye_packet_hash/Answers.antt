@@ -1,16 +1,14 @@
-use mathlib.Core.Path.{ap}
-use Rattle.packet.specs.declared.PacketHash.{PacketHash}
+use mathlib.Core.Path.{refl, sym, ap, ◌∙◌}
+use Rattle.numbers.proofs.RefusalNumbers.{some_number}
+use Rattle.packet.specs.Hash.{Hashed}
 use Rattle.haskumye.proofs.ExportLaws.{written, untouched}
 use Rattle.haskumye.proofs.packets.haskumye_packet_hash.Goals as goal
 
-pub returns-then-refusal-eq0 : goal.returns-then-refusal-eq0
-returns-then-refusal-eq0 c =
-    let s = c.packet_hash-answer in
-    let refused = ap (λ (a : PacketHash). a.refusal) s.ensures in
-    let bytes = ap (λ (a : PacketHash). a.bytes) s.ensures in
-    written s.result.refusal _ refused _ c.args.hash.now s.result.bytes bytes c.if-refusal-eq0.true
+pub returns-in-Ok : goal.returns-in-Ok
+returns-in-Ok c =
+    let told = c.in-Ok.ensures in
+    written 0 _ (ap (λ (a : Hashed). a.refusal) told) _ c.args.hash.now _ (ap (λ (a : Hashed). a.bytes) told) refl
 
-pub returns : goal.returns
-returns c =
-    let s = c.packet_hash-answer in
-    untouched s.result.refusal _ (ap (λ (a : PacketHash). a.refusal) s.ensures) _ c.args.hash.now c.if-refusal-eq0.false
+pub returns-in-Err : goal.returns-in-Err
+returns-in-Err c =
+    untouched _ _ (c.number.ensures ∙ ap (λ (a : Hashed). a.refusal) c.in-Err.ensures) _ c.args.hash.now (λ z. some_number _ (sym c.number.ensures ∙ z))

@@ -1,17 +1,16 @@
-use mathlib.Core.Path.{ap, ◌∙◌}
-use Rattle.packet.specs.declared.Reading.{Reading}
+use mathlib.Core.Path.{refl, sym, ap, ◌∙◌}
+use Rattle.numbers.proofs.RefusalNumbers.{some_number}
+use Rattle.packet.specs.Read.{Reading}
 use Rattle.crossing.specs.Packets.{parts_bytes}
 use Rattle.haskumye.proofs.ExportLaws.{written, untouched}
 use Rattle.haskumye.proofs.packets.haskumye_read.Goals as goal
 
-pub returns-then-refusal-eq0 : goal.returns-then-refusal-eq0
-returns-then-refusal-eq0 c =
-    let s = c.read-reading in
-    let refused = ap (λ (a : Reading). a.refusal) s.ensures in
-    let bytes = c.parts_bytes-bytes.ensures ∙ ap (λ (a : Reading). parts_bytes a.parts) s.ensures in
-    written s.result.refusal _ refused _ c.args.parts.now c.parts_bytes-bytes.result bytes c.if-refusal-eq0.true
+pub returns-in-Ok : goal.returns-in-Ok
+returns-in-Ok c =
+    let told = c.in-Ok.ensures in
+    written 0 _ (ap (λ (a : Reading). a.refusal) told) _ c.args.parts.now c.parts_bytes.result
+    (c.parts_bytes.ensures ∙ ap (λ (a : Reading). parts_bytes a.parts) told) refl
 
-pub returns : goal.returns
-returns c =
-    let s = c.read-reading in
-    untouched s.result.refusal _ (ap (λ (a : Reading). a.refusal) s.ensures) _ c.args.parts.now c.if-refusal-eq0.false
+pub returns-in-Err : goal.returns-in-Err
+returns-in-Err c =
+    untouched _ _ (c.number.ensures ∙ ap (λ (a : Reading). a.refusal) c.in-Err.ensures) _ c.args.parts.now (λ z. some_number _ (sym c.number.ensures ∙ z))

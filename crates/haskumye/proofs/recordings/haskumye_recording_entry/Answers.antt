@@ -1,13 +1,13 @@
+use mathlib.Core.Path.{refl}
 use Rattle.haskumye.proofs.RecordingLaws.{entry_given, entry_missing}
 use Rattle.haskumye.proofs.recordings.haskumye_recording_entry.Goals as goal
 
-pub returns-then-fields : goal.returns-then-fields
-returns-then-fields c =
+pub returns-in_default : goal.returns-in_default
+returns-in_default c =
     let a = c.args in
-    entry_given a.file.now a.index a.entry.now c.entry-fields.result c.entry-fields.ensures
-    c.if-fields.true _ c.entry_numbers-numbers.ensures
+    rw c.number.ensures (entry_missing a.file.now a.index a.entry.now _ c.in_default.ensures refl)
 
 pub returns : goal.returns
 returns c =
     let a = c.args in
-    entry_missing a.file.now a.index a.entry.now c.entry-fields.result c.entry-fields.ensures c.if-fields.false
+    entry_given a.file.now a.index a.entry.now _ c.in-Some.ensures refl _ c.entry_numbers.ensures

@@ -1,14 +1,16 @@
-use mathlib.Core.Path.{ap, ◌∙◌}
-use Rattle.saved.specs.Load.{LoadedOn, load_on}
-use Rattle.crossing.specs.Tallies.{tally_numbers}
+use mathlib.Core.Path.{sym, ap, ◌∙◌}
+use borrow.Author.Rules.{rules}
+use Rattle.crossing.specs.Tallies.{tally_in, tally_numbers}
+use Rattle.crossing.proofs.LosesNothing.{numbers_back}
 use Rattle.haskumye.proofs.saved_tables.haskumye_load.Goals as goal
 
-pub returns : goal.returns
-returns c =
-    let a = c.args in
-    let l = c.load-loaded in
-    let same = ap (load_on a.file.now a.tables.now) c.tally_in.ensures in (
-      l.ensures.0 ∙ ap (λ (x : LoadedOn). x.refusal) same,
-      l.ensures.1 ∙ ap (λ (x : LoadedOn). x.tables) same,
-      c.tally_numbers.ensures ∙ ap tally_numbers (l.ensures.2 ∙ ap (λ (x : LoadedOn). x.tally) same),
-    )
+pub returns-in-Ok : goal.returns-in-Ok
+returns-in-Ok c =
+    let load = c.in-Ok.ensures (tally_in c.args.tally.now) in
+    (load.0, load.1, c.tally_numbers.ensures ∙ ap tally_numbers load.2)
+
+pub returns-in-Err : goal.returns-in-Err
+returns-in-Err c =
+    let tally = c.args.tally.now in
+    let load = c.in-Err.ensures (tally_in tally) in
+    (c.number.ensures ∙ load.0, load.1, sym (numbers_back tally (search rules)) ∙ ap tally_numbers load.2)

@@ -1,0 +1,7 @@
+use mathlib.Core.Path.{◌∙◌}
+use Rattle.haskumye.proofs.questions.haskumye_live_path.Goals as goal
+
+pub returns : goal.returns
+returns c =
+    let told = c.live_path.ensures c.args.path.now in
+    (c.put_some.ensures.0 ∙ told.0, c.put_some.ensures.1 ∙ told.1)

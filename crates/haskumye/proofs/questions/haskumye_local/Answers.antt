@@ -1,0 +1,7 @@
+use mathlib.Core.Path.{◌∙◌}
+use Rattle.haskumye.proofs.questions.haskumye_local.Goals as goal
+
+pub returns : goal.returns
+returns c =
+    let told = c.local_at.ensures c.args.address.now in
+    (c.put_some.ensures.0 ∙ told.0, c.put_some.ensures.1 ∙ told.1)
