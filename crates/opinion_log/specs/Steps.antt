@@ -72,18 +72,20 @@ unfoldable pub keeps_hash : Entry → Known → Bool
 keeps_hash (came a) k = remembers (seen_at a.clock k) a (plan (seen_at a.clock k) a)
 keeps_hash (called c) k = false
 
--- what each of the first n entries did
 abbrev pub idle : Outcome
 idle = record { effect = Nothing; kept = false }
 
-abbrev pub Did : List ℕ → List Outcome → ℕ → Type 0
-Did log outcomes i =
-    ((get_or outcomes i idle).effect ≡ effect_of (entry_of (entry_bytes log i)) (known_in log i))
-    × ((get_or outcomes i idle).kept ≡ keeps_hash (entry_of (entry_bytes log i)) (known_in log i))
+-- what each of the first n entries did
+abbrev pub EffectsOf : List ℕ → List Outcome → ℕ → Type 0
+EffectsOf log outcomes n = (i : ℕ) → i < n → (get_or outcomes i idle).effect ≡ effect_of (entry_of (entry_bytes log i)) (known_in log i)
 
--- what a question about paths, links, return records and hashes may build on
+-- whether the hash of each is remembered
+abbrev pub KeptOf : List ℕ → List Outcome → ℕ → Type 0
+KeptOf log outcomes n = (i : ℕ) → i < n → (get_or outcomes i idle).kept ≡ keeps_hash (entry_of (entry_bytes log i)) (known_in log i)
+
+-- what a question about paths, links and return records may build on
 abbrev pub CanAsk : List ℕ → List Outcome → ℕ → Type 0
-CanAsk log outcomes n = (n ≤ list_limit) × ((i : ℕ) → i < n → Did log outcomes i)
+CanAsk log outcomes n = (n ≤ list_limit) × EffectsOf log outcomes n
 
 -- ---- a port's settings
 abbrev pub port_seen : SeenPort → Port
@@ -96,7 +98,7 @@ pub record PathKnown (log : List ℕ) (i : ℕ) (destination : List ℕ) (s : Op
 
 -- ---- a packet, as far as it can be judged by the first n entries
 abbrev pub CanJudge : List ℕ → List Outcome → ℕ → List ℕ → Type 0
-CanJudge log outcomes n packet = CanAsk log outcomes n × (reads longest_packet packet ≡ true)
+CanJudge log outcomes n packet = CanAsk log outcomes n × KeptOf log outcomes n × (reads longest_packet packet ≡ true)
 
 -- what is known of it
 abbrev pub view_by : List ℕ → ℕ → Arrived → View

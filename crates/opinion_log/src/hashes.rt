@@ -2,8 +2,9 @@
 ghost use Rattle.std.specs.Prelude.{◌≡◌, ◌≤◌};
 ghost use Rattle.history.specs.Known.{Known};
 ghost use Rattle.history.specs.After.{after};
+ghost use Rattle.history.specs.Opinion.{list_limit};
 ghost use Rattle.opinion_log.specs.Log.{known_in};
-ghost use Rattle.opinion_log.specs.Steps.{call_of, Fine, keeps_hash, CanAsk};
+ghost use Rattle.opinion_log.specs.Steps.{call_of, Fine, keeps_hash, KeptOf};
 
 use super::log::{Entry, entry_at};
 use super::outcomes::Outcome;
@@ -31,7 +32,7 @@ pub fn until(
     n: usize,
     hash: [u8; 32],
 ) -> u64
-    requires { CanAsk log.now outcomes.now n }
+    requires { (n ≤ list_limit) × KeptOf log.now outcomes.now n }
     ensures { result ≡ (known_in log.now n).until hash }
 {
     let mut time = 0;

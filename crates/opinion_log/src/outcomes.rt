@@ -2,7 +2,7 @@
 ghost use Rattle.std.specs.Prelude.{◌≡◌, ◌<◌, ◌≤◌};
 ghost use Rattle.history.specs.Opinion.{list_limit};
 ghost use Rattle.opinion_log.specs.Log.{entry_of, entry_bytes, known_in};
-ghost use Rattle.opinion_log.specs.Steps.{effect_of, keeps_hash, CanAsk, planned_effect};
+ghost use Rattle.opinion_log.specs.Steps.{effect_of, keeps_hash, CanAsk, KeptOf, planned_effect};
 
 use super::log::{Entry, entry_at};
 use super::places::{LIST_LIMIT, LOG_SIZE};
@@ -52,7 +52,7 @@ fn effect_of(planned: Planned, is_data: bool) -> Effect
 
 // What entry i did, by those before it.
 fn outcome_at(log: &[u8; LOG_SIZE], outcomes: &[Outcome; LIST_LIMIT], i: usize) -> Outcome
-    requires { CanAsk log.now outcomes.now i × (i < list_limit) }
+    requires { CanAsk log.now outcomes.now i × KeptOf log.now outcomes.now i × (i < list_limit) }
     ensures { (result.effect ≡ effect_of (entry_of (entry_bytes log.now i)) (known_in log.now i))
         × (result.kept ≡ keeps_hash (entry_of (entry_bytes log.now i)) (known_in log.now i)) }
 {
@@ -70,7 +70,7 @@ fn outcome_at(log: &[u8; LOG_SIZE], outcomes: &[Outcome; LIST_LIMIT], i: usize) 
 // What the first n entries did.
 pub fn outcomes_of(log: &[u8; LOG_SIZE], n: usize) -> [Outcome; LIST_LIMIT]
     requires { n ≤ list_limit }
-    ensures { CanAsk log.now result n }
+    ensures { CanAsk log.now result n × KeptOf log.now result n }
 {
     let mut outcomes = [IDLE; LIST_LIMIT];
     for i in 0..n {

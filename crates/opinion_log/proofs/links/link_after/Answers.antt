@@ -28,7 +28,7 @@ returns-in-LeavesLink c =
     let a = arrival_of c.in-Came.packet.now c.in-Came.arrived in
     let is : came a ≡ entry_of (entry_bytes c.args.log.now c.args.i) = sym (ap call_of c.in-Came.is) ∙ c.entry_at.ensures.0 in
     let did : (get_or c.args.outcomes.now c.args.i idle).effect ≡ effect_of (came a) k =
-    (c.requires.0.1 c.args.i (omega arith)).0 ∙ sym (ap (λ (x : Entry). effect_of x k) is) in
+    c.requires.0.1 c.args.i (omega arith) ∙ sym (ap (λ (x : Entry). effect_of x k) is) in
     let effect : effect_of (came a) k ≡ LeavesLink = sym did ∙ c.in-LeavesLink.is in
     let ours : link_id a.bytes ≡ c.args.id = sym c.link_id_of.ensures ∙ same_eq _ _ (sym (equal_is_same _ _) ∙ sym c.eq.ensures ∙ c.if-eq.true) in
     let (p, found, so) = link_asked a k effect in
@@ -42,7 +42,7 @@ returns-in-RenewsLink c =
     let a = arrival_of c.in-Came.packet.now c.in-Came.arrived in
     let is : came a ≡ entry_of (entry_bytes c.args.log.now c.args.i) = sym (ap call_of c.in-Came.is) ∙ c.entry_at.ensures.0 in
     let did : (get_or c.args.outcomes.now c.args.i idle).effect ≡ effect_of (came a) k =
-    (c.requires.0.1 c.args.i (omega arith)).0 ∙ sym (ap (λ (x : Entry). effect_of x k) is) in
+    c.requires.0.1 c.args.i (omega arith) ∙ sym (ap (λ (x : Entry). effect_of x k) is) in
     let effect : effect_of (came a) k ≡ RenewsLink = sym did ∙ c.in-RenewsLink.is in
     let ours : destination a ≡ c.args.id = same_eq _ _ (grind (arith, tests, equal_is_same)) in
     let (l, found, so) = link_carried a k effect in
@@ -56,7 +56,7 @@ returns-in_default-effect c =
     let a = arrival_of c.in-Came.packet.now c.in-Came.arrived in
     let is : came a ≡ entry_of (entry_bytes c.args.log.now c.args.i) = sym (ap call_of c.in-Came.is) ∙ c.entry_at.ensures.0 in
     let did : (get_or c.args.outcomes.now c.args.i idle).effect ≡ effect_of (came a) k =
-    (c.requires.0.1 c.args.i (omega arith)).0 ∙ sym (ap (λ (x : Entry). effect_of x k) is) in
+    c.requires.0.1 c.args.i (omega arith) ∙ sym (ap (λ (x : Entry). effect_of x k) is) in
     let p : effect_of (came a) k ≡ LeavesLink → same (link_id a.bytes) c.args.id ≡ false = λ e. grind (arith, tests, equal_is_same) in
     let q : effect_of (came a) k ≡ RenewsLink → same (destination a) c.args.id ≡ false = λ e. grind (arith, tests, equal_is_same) in
     grind (arith, tests, link_others a k c.args.id p q, one_more c.args.log.now c.args.i (came a) is)
@@ -68,7 +68,7 @@ returns-in_default-effect-2 c =
     let a = arrival_of c.in-Came.packet.now c.in-Came.arrived in
     let is : came a ≡ entry_of (entry_bytes c.args.log.now c.args.i) = sym (ap call_of c.in-Came.is) ∙ c.entry_at.ensures.0 in
     let did : (get_or c.args.outcomes.now c.args.i idle).effect ≡ effect_of (came a) k =
-    (c.requires.0.1 c.args.i (omega arith)).0 ∙ sym (ap (λ (x : Entry). effect_of x k) is) in
+    c.requires.0.1 c.args.i (omega arith) ∙ sym (ap (λ (x : Entry). effect_of x k) is) in
     let p : effect_of (came a) k ≡ LeavesLink → same (link_id a.bytes) c.args.id ≡ false = λ e. grind (arith, tests, equal_is_same) in
     let q : effect_of (came a) k ≡ RenewsLink → same (destination a) c.args.id ≡ false = λ e. grind (arith, tests, equal_is_same) in
     grind (arith, tests, link_others a k c.args.id p q, one_more c.args.log.now c.args.i (came a) is)
@@ -80,7 +80,7 @@ returns-in_default-effect-3 c =
     let a = arrival_of c.in-Came.packet.now c.in-Came.arrived in
     let is : came a ≡ entry_of (entry_bytes c.args.log.now c.args.i) = sym (ap call_of c.in-Came.is) ∙ c.entry_at.ensures.0 in
     let did : (get_or c.args.outcomes.now c.args.i idle).effect ≡ effect_of (came a) k =
-    (c.requires.0.1 c.args.i (omega arith)).0 ∙ sym (ap (λ (x : Entry). effect_of x k) is) in
+    c.requires.0.1 c.args.i (omega arith) ∙ sym (ap (λ (x : Entry). effect_of x k) is) in
     let p : effect_of (came a) k ≡ LeavesLink → same (link_id a.bytes) c.args.id ≡ false = λ e. grind (arith, tests, equal_is_same) in
     let q : effect_of (came a) k ≡ RenewsLink → same (destination a) c.args.id ≡ false = λ e. grind (arith, tests, equal_is_same) in
     grind (arith, tests, link_others a k c.args.id p q, one_more c.args.log.now c.args.i (came a) is)

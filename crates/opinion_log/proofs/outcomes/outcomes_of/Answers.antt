@@ -12,7 +12,8 @@ loop-i-preserved c =
     let wide = c.loop-i.invariant.0 in (
       length-set c.loop-i.outcomes c.loop-i.i c.outcome_at.result ∙ wide,
       omega arith,
-      filled
-          (λ j x. (x.effect ≡ effect_of (entry_of (entry_bytes log j)) (known_in log j)) × (x.kept ≡ keeps_hash (entry_of (entry_bytes log j)) (known_in log j)))
-          c.loop-i.outcomes c.loop-i.i c.outcome_at.result idle (omega (arith, wide)) c.loop-i.invariant.2 c.outcome_at.ensures,
+      filled (λ j x. x.effect ≡ effect_of (entry_of (entry_bytes log j)) (known_in log j)) c.loop-i.outcomes c.loop-i.i c.outcome_at.result idle
+          (omega (arith, wide)) c.loop-i.invariant.2 c.outcome_at.ensures.0,
+      filled (λ j x. x.kept ≡ keeps_hash (entry_of (entry_bytes log j)) (known_in log j)) c.loop-i.outcomes c.loop-i.i c.outcome_at.result idle
+          (omega (arith, wide)) c.loop-i.invariant.3 c.outcome_at.ensures.1,
     )

@@ -29,7 +29,7 @@ returns-in-LeavesReturn c =
     let a = arrival_of c.in-Came.packet.now c.in-Came.arrived in
     let is : came a ≡ entry_of (entry_bytes c.args.log.now c.args.i) = sym (ap call_of c.in-Came.is) ∙ c.entry_at.ensures.0 in
     let did : (get_or c.args.outcomes.now c.args.i idle).effect ≡ effect_of (came a) k =
-    (c.requires.0.1 c.args.i (omega arith)).0 ∙ sym (ap (λ (x : Entry). effect_of x k) is) in
+    c.requires.0.1 c.args.i (omega arith) ∙ sym (ap (λ (x : Entry). effect_of x k) is) in
     let effect : effect_of (came a) k ≡ LeavesReturn = sym did ∙ c.in-LeavesReturn.is in
     let ours : return_key a ≡ c.args.key = sym c.return_key.ensures ∙ same_eq _ _ (sym (equal_is_same _ _) ∙ sym c.eq.ensures ∙ c.if-eq.true) in
     let (p, found, so) = return_made a k effect in
@@ -43,7 +43,7 @@ returns-in-EmptiesReturn c =
     let a = arrival_of c.in-Came.packet.now c.in-Came.arrived in
     let is : came a ≡ entry_of (entry_bytes c.args.log.now c.args.i) = sym (ap call_of c.in-Came.is) ∙ c.entry_at.ensures.0 in
     let did : (get_or c.args.outcomes.now c.args.i idle).effect ≡ effect_of (came a) k =
-    (c.requires.0.1 c.args.i (omega arith)).0 ∙ sym (ap (λ (x : Entry). effect_of x k) is) in
+    c.requires.0.1 c.args.i (omega arith) ∙ sym (ap (λ (x : Entry). effect_of x k) is) in
     let effect : effect_of (came a) k ≡ EmptiesReturn = sym did ∙ c.in-EmptiesReturn.is in
     let ours : destination a ≡ c.args.key = same_eq _ _ (grind (arith, tests, equal_is_same)) in
     grind (arith, tests, return_emptied a k effect c.args.key, one_more c.args.log.now c.args.i (came a) is, ours, eq_same _ _ ours)
@@ -55,7 +55,7 @@ returns-in_default-effect c =
     let a = arrival_of c.in-Came.packet.now c.in-Came.arrived in
     let is : came a ≡ entry_of (entry_bytes c.args.log.now c.args.i) = sym (ap call_of c.in-Came.is) ∙ c.entry_at.ensures.0 in
     let did : (get_or c.args.outcomes.now c.args.i idle).effect ≡ effect_of (came a) k =
-    (c.requires.0.1 c.args.i (omega arith)).0 ∙ sym (ap (λ (x : Entry). effect_of x k) is) in
+    c.requires.0.1 c.args.i (omega arith) ∙ sym (ap (λ (x : Entry). effect_of x k) is) in
     let p : effect_of (came a) k ≡ LeavesReturn → same (return_key a) c.args.key ≡ false =
     λ e. ap (λ (x : List ℕ). same x c.args.key) (sym c.return_key.ensures) ∙ sym (equal_is_same _ _) ∙ sym c.eq.ensures ∙ c.if-eq.false in
     let q : effect_of (came a) k ≡ EmptiesReturn → same (destination a) c.args.key ≡ false = λ e. grind (arith, tests, equal_is_same) in
@@ -68,7 +68,7 @@ returns-in_default-effect-2 c =
     let a = arrival_of c.in-Came.packet.now c.in-Came.arrived in
     let is : came a ≡ entry_of (entry_bytes c.args.log.now c.args.i) = sym (ap call_of c.in-Came.is) ∙ c.entry_at.ensures.0 in
     let did : (get_or c.args.outcomes.now c.args.i idle).effect ≡ effect_of (came a) k =
-    (c.requires.0.1 c.args.i (omega arith)).0 ∙ sym (ap (λ (x : Entry). effect_of x k) is) in
+    c.requires.0.1 c.args.i (omega arith) ∙ sym (ap (λ (x : Entry). effect_of x k) is) in
     let p : effect_of (came a) k ≡ LeavesReturn → same (return_key a) c.args.key ≡ false = λ e. grind (arith, tests, equal_is_same) in
     let q : effect_of (came a) k ≡ EmptiesReturn → same (destination a) c.args.key ≡ false = λ e. grind (arith, tests, equal_is_same) in
     grind (arith, tests, return_others a k c.args.key p q, one_more c.args.log.now c.args.i (came a) is)
@@ -80,7 +80,7 @@ returns-in_default-effect-3 c =
     let a = arrival_of c.in-Came.packet.now c.in-Came.arrived in
     let is : came a ≡ entry_of (entry_bytes c.args.log.now c.args.i) = sym (ap call_of c.in-Came.is) ∙ c.entry_at.ensures.0 in
     let did : (get_or c.args.outcomes.now c.args.i idle).effect ≡ effect_of (came a) k =
-    (c.requires.0.1 c.args.i (omega arith)).0 ∙ sym (ap (λ (x : Entry). effect_of x k) is) in
+    c.requires.0.1 c.args.i (omega arith) ∙ sym (ap (λ (x : Entry). effect_of x k) is) in
     let p : effect_of (came a) k ≡ LeavesReturn → same (return_key a) c.args.key ≡ false = λ e. grind (arith, tests, equal_is_same) in
     let q : effect_of (came a) k ≡ EmptiesReturn → same (destination a) c.args.key ≡ false = λ e. grind (arith, tests, equal_is_same) in
     grind (arith, tests, return_others a k c.args.key p q, one_more c.args.log.now c.args.i (came a) is)
