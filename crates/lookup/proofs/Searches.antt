@@ -1,8 +1,9 @@
 -- A search through records of one width: as its loop goes, and as the rules see it.
-use Prim.Native.Nat.{ℕ, zero, suc, ◌+◌, ◌-◌, ◌*◌, ◌≤◌, ◌<◌}
+use Prim.Native.Nat.{ℕ, zero, suc, ◌+◌, ◌-◌, ◌*◌, ◌/◌, ◌≤◌, ◌<◌}
 use native.Mathlib.Nat.{add-zero, add-suc, mul-add, mul_assoc}
 use native.Mathlib.Numerals.{add-one}
 use native.Mathlib.Omega.{arith}
+use Rattle.std.proofs.Math.Nat.{mul-le-mul_left}
 use mathlib.Core.Bool.{Bool, true, false, cond, not}
 use mathlib.Core.List.{List}
 use mathlib.Core.Path.{◌≡◌, refl, sym, ap, subst, ◌∙◌}
@@ -25,7 +26,7 @@ use Rattle.tables.specs.Records.{slot_of}
 use Rattle.tables.specs.Layout.{record_at, records}
 use Rattle.tables.proofs.Seen.{lowest_seen, free_seen}
 use Rattle.tables.proofs.Chunks.{is_part}
-use Rattle.lookup.specs.Search.{last_word, none_is, is_used, has_key, is_live_of, lowest_record, found}
+use Rattle.lookup.specs.Search.{last_word, none_is, is_used, has_key, is_live_of, lowest_record, fours_before, found}
 use Rattle.lookup.proofs.Found.{found_some, found_none, some_found, none_found}
 
 -- ---- within a part
@@ -98,6 +99,10 @@ module _ (test : List ℕ → Bool) (at width : ℕ) (t : List ℕ) (i n : ℕ) 
   pub run_passed : n ≤ k → lowest_record test at width (i + n) t ≡ i + n
   run_passed l = runs ∙ omega (arith, within_run)
 
+-- ---- whole fours of n records
+pub fours_within : (w n : ℕ) → w * 4 * (n / 4) ≤ w * n
+fours_within w n = subst (λ (k : ℕ). k ≤ w * n) (sym (mul_assoc w 4 (n / 4))) (mul-le-mul_left w (omega arith))
+
 -- ---- fours that one test of all four passes by
 module _ (test four : List ℕ → Bool) (width : ℕ) (t : List ℕ) (none : (j : ℕ) → four (record_at 0 (width * 4) t j) ≡ false
     → lowest_record test 0 width 4 (record_at 0 (width * 4) t j) ≡ 4) where
@@ -112,20 +117,17 @@ module _ (test four : List ℕ → Bool) (width : ℕ) (t : List ℕ) (none : (j
       (sym (none m (h m (omega arith))) ∙ lowest_of_part test from width 4 t) (omega arith)
       ∙ sym more
 
-  module _ (at n fours : ℕ) (tables : List ℕ) (bytes : t ≡ part tables at (width * n)) (count : n ≡ 4 * fours) where
-    pub all_passed : fours ≤ first (λ g. four (record_at 0 (width * 4) t g)) fours → lowest_record test at width n tables ≡ n
-    all_passed l =
-        let front = fours_passed fours (λ j q. first_before (λ g. four (record_at 0 (width * 4) t g)) fours j (omega arith)) in
-        let all : n ≡ fours * 4 = omega arith in
-        sym (lowest_of_part test at width n tables)
-        ∙ ap (λ (ys : List ℕ). lowest_record test 0 width n ys) (sym bytes)
-        ∙ ap (λ (k : ℕ). lowest_record test 0 width k t) all ∙ front ∙ sym all
-
   -- m fours of the n records, behind which the first that passes is k
-  module _ (at n fours : ℕ) (tables : List ℕ) (bytes : t ≡ part tables at (width * n)) (long : length t ≡ width * n) (count : n ≡ 4 * fours)
-      {m : ℕ} (passed : m ≡ first (λ g. four (record_at 0 (width * 4) t g)) fours) where
-    no_more : m * 4 ≤ n
-    no_more = omega (arith, passed, first_le (λ g. four (record_at 0 (width * 4) t g)) fours)
+  module _ (at n : ℕ) (tables : List ℕ) (bytes : t ≡ part tables at (width * n)) (long : length t ≡ width * n)
+      {m : ℕ} (passed : m ≡ fours_before four width (n / 4) t) where
+    at_most : m ≤ n / 4
+    at_most = subst (λ (k : ℕ). k ≤ n / 4) (sym passed) (first_le (λ g. four (record_at 0 (width * 4) t g)) (n / 4))
+
+    pub no_more : m * 4 ≤ n
+    no_more = omega (arith, at_most)
+
+    pub passed_within : width * (m * 4) ≤ width * n
+    passed_within = mul-le-mul_left width no_more
 
     behind : length t - width * (m * 4) ≡ width * (n - m * 4)
     behind =
@@ -142,7 +144,7 @@ module _ (test four : List ℕ → Bool) (width : ℕ) (t : List ℕ) (none : (j
         → m * 4 + k ≡ lowest_record test at width n tables
     found_behind e =
         let front = fours_passed m
-        (λ j l. first_before (λ g. four (record_at 0 (width * 4) t g)) fours j (subst (λ (k : ℕ). j < k) passed l)) in
+        (λ j l. first_before (λ g. four (record_at 0 (width * 4) t g)) (n / 4) j (subst (λ (k : ℕ). j < k) passed l)) in
         let here = seen_in test (width * (m * 4)) width (n - m * 4) t e
         (is_part (length t - width * (m * 4)) (width * (m * 4)) t ∙ ap (part t (width * (m * 4))) behind) in
         let all : m * 4 + (n - m * 4) ≡ n = omega (arith, no_more) in

@@ -37,6 +37,10 @@ is_live_of key expiry_at clock b = has_key key b and live clock (number (part b 
 unfoldable pub lowest_record : (List ℕ → Bool) → ℕ → ℕ → ℕ → List ℕ → ℕ
 lowest_record test at width n t = first (λ i. test (record_at at width t i)) n
 
+-- how many of n fours of records, each `width` wide, stand before the first that passes the test of a four, or n
+abbrev pub fours_before : (List ℕ → Bool) → ℕ → ℕ → List ℕ → ℕ
+fours_before four width n t = first (λ g. four (record_at 0 (width * 4) t g)) n
+
 -- the place at which a search of n records ended, if it found one: without, it ends at n
 unfoldable pub found : ℕ → ℕ → Option ℕ
 found n place = ltb place n then Some place otherwise None

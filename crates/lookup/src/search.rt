@@ -5,7 +5,7 @@ ghost use Rattle.octets.specs.Part.{part};
 ghost use Rattle.octets.specs.BigEndian.{word_width};
 ghost use Rattle.tables.specs.Places.{time_width};
 ghost use Rattle.tables.specs.Layout.{record_at};
-ghost use Rattle.lookup.specs.Search.{last_word, none_is, has_key, is_live, is_live_of, lowest_record, found};
+ghost use Rattle.lookup.specs.Search.{last_word, none_is, has_key, is_live, is_live_of, lowest_record, fours_before, found};
 
 // Where the records of a table stand, how wide and how many they are, and where in one its expiry stands.
 #[derive(Clone, Copy)]
@@ -74,22 +74,36 @@ fn none_of_four(four: &[u8], at: usize, width: usize, x: u64) -> bool
         && octets::word_at(four, at + width * 3) != x
 }
 
-// The lowest place of a live record of the key. The fours of which none has the key's last eight bytes are
-// passed first: four records a step, for a step costs more than a comparison.
+// How many fours stand before the first of which one has the key's last eight bytes, or all fours. Four records a step,
+// for a step costs more than a comparison.
+#[inline(always)]
+fn fours_before(records: &[u8], table: Table, tail: usize, last: u64) -> usize
+    requires { (length records.now ≡ table.width * table.count) × (1 + tail + word_width ≤ table.width) }
+    ensures { result
+        ≡ fours_before (λ four. not (none_is last (1 + tail) table.width 4 four)) table.width (table.count / 4)
+        records.now }
+{
+    let fours = table.count / 4;
+    if fours == 0 {
+        return 0;
+    }
+    records[..table.width * 4 * fours]
+        .chunks_exact(table.width * 4)
+        .position(|four| !none_of_four(four, 1 + tail, table.width, last))
+        .unwrap_or(fours)
+}
+
+// The lowest place of a live record of the key. The fours of which none has the key's last eight bytes are passed first.
 pub fn live_place(tables: &[u8], table: Table, key: &[u8], clock: u64) -> Option<usize>
     requires { (table.at + table.width * table.count ≤ length tables.now) × (1 + length key.now ≤ table.width)
-        × (table.expiry + time_width ≤ table.width) × (word_width ≤ length key.now)
-        × (4 ≤ table.count) × (table.count ≡ 4 * (table.count / 4)) }
+        × (table.expiry + time_width ≤ table.width) × (word_width ≤ length key.now) }
     ensures { result ≡ found table.count
         (lowest_record (is_live_of key.now table.expiry clock) table.at table.width table.count tables.now) }
 {
     let tail = key.len() - octets::WORD_WIDTH;
     let last = octets::word_at(key, tail);
     let records = records_of(tables, table);
-    let fours = records
-        .chunks_exact(table.width * 4)
-        .position(|four| !none_of_four(four, 1 + tail, table.width, last))?;
-    let passed = fours * 4;
+    let passed = fours_before(records, table, tail, last) * 4;
     let place = records[table.width * passed..]
         .chunks_exact(table.width)
         .position(|b| is_live_of(b, key, last, table.expiry, clock))?;
