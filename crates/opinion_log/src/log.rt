@@ -41,7 +41,9 @@ pub fn listed(log: &[u8; LOG_SIZE]) -> usize
     usize::from(log[COUNT_AT]).min(LIST_LIMIT)
 }
 
-// The call that an entry lists.
+// The call that an entry lists. In line, so that each walk reads of an entry only what it asks for: called, it took the
+// walks over a log of settings two to three times as long.
+#[inline(always)]
 pub fn entry_at(log: &[u8; LOG_SIZE], i: usize) -> Entry<'_>
     requires { i < list_limit }
     ensures { (call_of result ≡ entry_of (entry_bytes log.now i)) × Fine result }
@@ -51,6 +53,7 @@ pub fn entry_at(log: &[u8; LOG_SIZE], i: usize) -> Entry<'_>
 }
 
 // One that no call of its kind can have left is a renumbering.
+#[inline(always)]
 fn read(e: &[u8]) -> Entry<'_>
     requires { length e.now ≡ entry_width }
     ensures { (call_of result ≡ entry_of e.now) × Fine result }

@@ -9,8 +9,8 @@ use mathlib.Core.Path.{◌≡◌, refl, sym, ap, ap₂, ◌∙◌}
 use lib.Dec.{eqb, lit≤}
 use lib.ListN.{length, get_or, get_or-eq_default}
 use borrow.Author.Tests.{le-leb, lt-leb}
-use Rattle.std.specs.List.{count_by, filter, range_with_len}
-use Rattle.std.proofs.lemmas.List.Sums.{length-filter, sum_by-cons}
+use Rattle.std.specs.List.{count_by, range_with_len}
+use Rattle.std.proofs.lemmas.List.Sums.{sum_by-cons}
 use Rattle.octets.specs.Bytes.{Bytes}
 use Rattle.octets.specs.Index.{◌and◌}
 use Rattle.octets.specs.Choice.{◌then◌otherwise◌}
@@ -24,7 +24,7 @@ use Rattle.numbers.specs.Numbers.{port_count, local_count, path_count, link_coun
 use Rattle.rules.specs.Relay.{Slot, empty, holds}
 use Rattle.rules.specs.View.{path_place, view_at}
 use Rattle.rules.specs.Questions.{Question, port_settings, rate_settings, local_at, path_at, link_at, live_path, live_returns, live_hashes, the_last_clock, Told, an_address, a_path, a_link, told_of, count_below, count_of, row_seven, question_rule, question_refusal, tell}
-use Rattle.rules.proofs.Counting.{count_cong}
+use Rattle.rules.proofs.Counting.{count_cong, count_le}
 use Rattle.tables.specs.Places.{time_width, rate_at, ports_at, port_width, locals_at, local_width, paths_at, path_width, links_at, link_width, returns_at, return_width, hashes_at, hash_width, table_size, address_width}
 use Rattle.codes.specs.Form.{code}
 use Rattle.tables.specs.Forms.{rate_settings_form, link_form}
@@ -73,11 +73,15 @@ counted_from p a (suc n) =
     ∙ sym (count_front (λ k. p (a + k)) n)
 
 pub live_counted : (at width n expiry clock : ℕ) (t : List ℕ)
-    → length (filter (λ i. is_live expiry clock (record_at at width t i)) (range_with_len 0 n)) ≡ live_records at width n expiry clock t
+    → count_by (λ i. is_live expiry clock (record_at at width t i)) (range_with_len 0 n) ≡ live_records at width n expiry clock t
 unfolding live_records
 live_counted at width n expiry clock t =
     let p : ℕ → Bool = λ i. is_live expiry clock (record_at at width t i) in
-    length-filter p (range_with_len 0 n) ∙ counted_from p 0 n ∙ count_cong (λ k. p (0 + k)) p n (λ i l. ap p (omega arith))
+    counted_from p 0 n ∙ count_cong (λ k. p (0 + k)) p n (λ i l. ap p (omega arith))
+
+pub live_most : (at width n expiry clock : ℕ) (t : List ℕ) → live_records at width n expiry clock t ≤ n
+unfolding live_records
+live_most at width n expiry clock t = count_le (λ i. is_live expiry clock (record_at at width t i)) n
 
 -- the slot of a record's bytes, of which the rule reads the expiry
 module _ {A : Type 0} (read : List ℕ → A) (alive : A → Bool) (expiry clock : ℕ)

@@ -37,7 +37,9 @@ fn write_decimal(digits: &mut [u8; MOST_DIGITS], x: u64) -> usize
     0
 }
 
-// The text with a number at its end, in decimal.
+// The text with a number at its end, in decimal. In line: called, it took a short line up to twice as long, whose text
+// is copied at each call.
+#[inline(always)]
 pub fn with_decimal(text: Text, x: u64) -> Text
     ensures { result ≡ appended text (decimal x) }
 {
