@@ -1,5 +1,6 @@
 // A link: made by the newest link request with its id that was forwarded, and renewed by each packet carried since.
-ghost use Rattle.std.specs.Prelude.{◌≡◌, ◌+◌, ◌<◌};
+ghost use Rattle.std.specs.Prelude.{◌≡◌, ◌+◌, ◌<◌, IfSome};
+ghost use Rattle.numbers.specs.Numbers.{port_count};
 ghost use Rattle.history.specs.Opinion.{list_limit};
 ghost use Rattle.opinion_log.specs.Log.{known_in};
 ghost use Rattle.opinion_log.specs.Steps.{CanAsk};
@@ -52,7 +53,8 @@ pub fn link_of(
     id: [u8; 16],
 ) -> Option<Link>
     requires { CanAsk log.now outcomes.now n }
-    ensures { link_of result ≡ (known_in log.now n).link id }
+    ensures { (link_of result ≡ (known_in log.now n).link id)
+        × IfSome result (λ s. (s.asking < port_count) × (s.answering < port_count)) }
 {
     let mut link = None;
     for i in 0..n {

@@ -1,5 +1,6 @@
 // A destination's path: what its newest accepted announces made of it, live or not.
-ghost use Rattle.std.specs.Prelude.{◌≡◌, ◌+◌, ◌<◌};
+ghost use Rattle.std.specs.Prelude.{◌≡◌, ◌+◌, ◌<◌, IfSome};
+ghost use Rattle.numbers.specs.Numbers.{port_count};
 ghost use Rattle.history.specs.Opinion.{list_limit};
 ghost use Rattle.opinion_log.specs.Log.{entry_of, entry_bytes, known_in};
 ghost use Rattle.opinion_log.specs.Steps.{effect_of, CanAsk, PathKnown};
@@ -61,7 +62,7 @@ pub fn path_of(
     destination: [u8; 16],
 ) -> Option<SeenPath>
     requires { CanAsk log.now outcomes.now n }
-    ensures { PathKnown log.now n destination result }
+    ensures { PathKnown log.now n destination result × IfSome result (λ s. s.port < port_count) }
 {
     let mut path = None;
     for i in 0..n {

@@ -1,5 +1,6 @@
 // A return record: made by the newest data with its key that was forwarded, and emptied by the proof that went back.
-ghost use Rattle.std.specs.Prelude.{◌≡◌, ◌+◌};
+ghost use Rattle.std.specs.Prelude.{◌≡◌, ◌+◌, ◌<◌, IfSome};
+ghost use Rattle.numbers.specs.Numbers.{port_count};
 ghost use Rattle.opinion_log.specs.Log.{known_in};
 ghost use Rattle.opinion_log.specs.Steps.{CanAsk};
 ghost use Rattle.judging.specs.Seen.{return_of};
@@ -48,7 +49,8 @@ pub fn return_of(
     key: [u8; 16],
 ) -> Option<SeenReturn>
     requires { CanAsk log.now outcomes.now n }
-    ensures { return_of key result ≡ (known_in log.now n).return key }
+    ensures { (return_of key result ≡ (known_in log.now n).return key)
+        × IfSome result (λ s. (s.arrival < port_count) × (s.leaving < port_count)) }
 {
     let mut back = None;
     for i in 0..n {

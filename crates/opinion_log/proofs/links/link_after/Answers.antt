@@ -33,7 +33,7 @@ returns-in-LeavesLink c =
     let ours : link_id a.bytes ≡ c.args.id = sym c.link_id_of.ensures ∙ same_eq _ _ (sym (equal_is_same _ _) ∙ sym c.eq.ensures ∙ c.if-eq.true) in
     let (p, found, so) = link_asked a k effect in
     let newest = seen_used (λ x. live a.clock x.expiry) (k.path (destination a)) p found in
-    grind (arith, tests, c.path_of-path.ensures.is, newest, so c.args.id, one_more c.args.log.now c.args.i (came a) is, ours, eq_same _ _ ours)
+    grind (arith, tests, c.path_of-path.ensures.0.is, newest, so c.args.id, one_more c.args.log.now c.args.i (came a) is, ours, eq_same _ _ ours)
 
 pub returns-in-RenewsLink : goal.returns-in-RenewsLink
 unfolding after_call renumbered_known now_clock change_path now_path now_port now_rate now_local now_under ◌then◌otherwise◌ rename_slot rename_link seen_at

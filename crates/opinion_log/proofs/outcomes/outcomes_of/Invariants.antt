@@ -1,4 +1,4 @@
-use Rattle.std.proofs.Common.{ℕ, ◌≡◌, ◌≤◌, ◌<◌, length}
+use Rattle.std.proofs.Common.{◌≡◌, ◌≤◌, length}
 use Rattle.history.specs.Opinion.{list_limit}
 use Rattle.opinion_log.specs.Steps.{EffectsOf, KeptOf}
 use Rattle.opinion_log.proofs.outcomes.outcomes_of.Given as goal

@@ -34,7 +34,7 @@ returns-in-LeavesReturn c =
     let ours : return_key a ≡ c.args.key = sym c.return_key.ensures ∙ same_eq _ _ (sym (equal_is_same _ _) ∙ sym c.eq.ensures ∙ c.if-eq.true) in
     let (p, found, so) = return_made a k effect in
     let newest = seen_used (λ x. live a.clock x.expiry) (k.path (destination a)) p found in
-    grind (arith, tests, c.path_of-path.ensures.is, newest, so c.args.key, return_left, one_more c.args.log.now c.args.i (came a) is, ours, eq_same _ _ ours)
+    grind (arith, tests, c.path_of-path.ensures.0.is, newest, so c.args.key, return_left, one_more c.args.log.now c.args.i (came a) is, ours, eq_same _ _ ours)
 
 pub returns-in-EmptiesReturn : goal.returns-in-EmptiesReturn
 unfolding after_call renumbered_known now_clock change_path now_path now_port now_rate now_local now_under ◌then◌otherwise◌ rename_slot rename_return seen_at return_key
