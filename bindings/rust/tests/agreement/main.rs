@@ -82,16 +82,29 @@ impl Texts {
     /// One line for each limit and refusal of the numbers that is another in the header.
     fn limits_differ(&self, header: &Interface) -> Vec<String> {
         let plain = self.numbers.lines().filter_map(|line| line.strip_prefix("pub const ")?.strip_suffix(';'));
-        let constants = plain.filter_map(|line| Some((line.split_once(':')?.0, text::number(line.split_once("= ")?.1)?)));
+        let constants = plain.filter_map(|line| Some((line.split_once(':')?.0.to_string(), text::number(line.split_once("= ")?.1)?)));
         let named = |name: &str| {
             let name = FILES.iter().find(|known| known.0 == name).map_or(name, |known| known.1);
             let names = [format!("HASKUMYE_REFUSAL_{name}"), format!("HASKUMYE_{name}")];
             names.into_iter().find_map(|name| Some((name.clone(), *header.constants.get(&name)?)))
         };
-        let both = constants.filter_map(|(name, here)| named(name).map(|(name, there)| (name, here, there)));
-        both.filter(|(_, here, there)| here != there)
-            .map(|(name, here, there)| format!("{name} is {there} in the header, {here} in the numbers"))
-            .collect()
+        let both = constants.chain(self.refusals()).filter_map(|(name, here)| named(&name).map(|(name, there)| (name, here, there)));
+        let other = both.filter(|(_, here, there)| here != there);
+        let differ = other.map(|(name, here, there)| format!("{name} is {there} in the header, {here} in the numbers"));
+        differ.chain(self.refusals_missing()).collect()
+    }
+
+    /// The refusals and their numbers as the exports tell them: the arms of `Refusal::number`.
+    fn refusals(&self) -> impl Iterator<Item = (String, u64)> + '_ {
+        let arms = self.numbers.lines().filter_map(|line| line.trim_start().strip_prefix("Refusal::")?.strip_suffix(','));
+        arms.filter_map(|arm| arm.split_once(" => ")).filter_map(|(name, number)| Some((in_capitals(name), text::number(number)?)))
+    }
+
+    /// One line for each refusal of Rust's that no arm tells.
+    fn refusals_missing(&self) -> Vec<String> {
+        let told: Vec<String> = self.refusals().map(|(name, _)| name).collect();
+        let names = Refusal::ALL.iter().filter(|case| case.number() != 0).map(|case| in_capitals(&format!("{case:?}")));
+        names.filter(|name| !told.contains(name)).map(|name| format!("HASKUMYE_REFUSAL_{name} is missing in the numbers")).collect()
     }
 
     /// The same with one place changed, which must be there once.
@@ -113,10 +126,15 @@ fn with_enums(mut rust: Interface) -> Interface {
     let cases = NoWayOn::ALL.iter().map(|case| (format!("NoWayOn{case:?}"), case.number()));
     let modes = Mode::ALL.iter().map(|case| (format!("Mode{case:?}"), case.number()));
     for (name, number) in refusals.chain(reasons).chain(clauses).chain(cases).chain(modes) {
-        let words = name.chars().flat_map(|sign| sign.is_uppercase().then_some('_').into_iter().chain([sign.to_ascii_uppercase()]));
-        rust.constants.insert(format!("HASKUMYE{}", words.collect::<String>()), number.into());
+        rust.constants.insert(format!("HASKUMYE_{}", in_capitals(&name)), number.into());
     }
     rust
+}
+
+/// The name of a case as constants have it: of TooShort TOO_SHORT.
+fn in_capitals(name: &str) -> String {
+    let words = name.chars().flat_map(|sign| sign.is_uppercase().then_some('_').into_iter().chain([sign.to_ascii_uppercase()]));
+    words.collect::<String>().trim_start_matches('_').to_string()
 }
 
 /// haskumye_parts becomes Parts.
@@ -452,5 +470,31 @@ fn limits_are_those_of_the_crate_of_numbers() {
         (NUMBERS, "LIST_FULL: u8 = 28", "LIST_FULL: u8 = 27", "HASKUMYE_REFUSAL_LIST_FULL is 28 in the header, 27 in the numbers"),
         (NUMBERS, "LIST_LIMIT: usize = 64", "LIST_LIMIT: usize = 65", "HASKUMYE_LIST_LIMIT is 64 in the header, 65 in the numbers"),
         (NUMBERS, "MAP: u8 = 8", "MAP: u8 = 9", "HASKUMYE_REFUSAL_MAP is 8 in the header, 9 in the numbers"),
+    ]);
+}
+
+#[test]
+fn refusals_are_those_that_exports_tell() {
+    assert_seen(&[
+        (
+            NUMBERS,
+            "Refusal::FilePlace => 22",
+            "Refusal::FilePlace => 24",
+            "HASKUMYE_REFUSAL_FILE_PLACE is 22 in the header, 24 in the numbers",
+        ),
+        (
+            NUMBERS,
+            "Refusal::FileBody => 24",
+            "Refusal::FileBody => 23",
+            "HASKUMYE_REFUSAL_FILE_BODY is 24 in the header, 23 in the numbers",
+        ),
+        (
+            NUMBERS,
+            "Refusal::ListFull => 28",
+            "Refusal::ListFull => 27",
+            "HASKUMYE_REFUSAL_LIST_FULL is 28 in the header, 27 in the numbers",
+        ),
+        (NUMBERS, "Refusal::Map => 8", "Refusal::Map => 9", "HASKUMYE_REFUSAL_MAP is 8 in the header, 9 in the numbers"),
+        (NUMBERS, "Refusal::Room => 25,", "", "HASKUMYE_REFUSAL_ROOM is missing in the numbers"),
     ]);
 }
