@@ -1,2 +1,2 @@
--- What the helpers of the questions promise. What the questions are told is in tables/specs/Asked.antt.
+-- What the questions and their helpers promise. What the questions are told is in tables/specs/Asked.antt.
 pub mod Put

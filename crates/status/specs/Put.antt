@@ -1,5 +1,5 @@
--- What a question returns: the answer in code, as told by its number and by what it leaves of a caller's buffer or number, whatever stands there.
--- And what is read of a record's bytes b, and how many records of a section are live: for the contracts of helpers.
+-- What a question returns: the answer in code, as told by its number and by what it leaves of a caller's buffer or number, whatever stands there. And,
+-- for the contracts of helpers alone, what is read of a record's bytes b, and how many records of a section are live.
 use Rattle.std.specs.Prelude.{ℕ, List, Option, Some, None, Result, Ok, Err}
 use Rattle.octets.specs.Choice.{◌then◌otherwise◌}
 use Rattle.octets.specs.Part.{part}
