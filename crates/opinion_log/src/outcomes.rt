@@ -1,13 +1,15 @@
 // What each packet of the list did when it came, from the oldest on.
 ghost use Rattle.std.specs.Prelude.{◌≡◌, ◌<◌, ◌≤◌};
+ghost use Rattle.history.specs.After.{came};
 ghost use Rattle.history.specs.Opinion.{list_limit};
+ghost use Rattle.judging.specs.Seen.{arrival_of};
 ghost use Rattle.opinion_log.specs.Log.{entry_of, entry_bytes, known_in};
-ghost use Rattle.opinion_log.specs.Steps.{effect_of, keeps_hash, CanAsk, KeptOf, planned_effect};
+ghost use Rattle.opinion_log.specs.Steps.{effect_of, keeps_hash, CanAsk, CanJudge, KeptOf, planned_effect};
 
 use super::log::{Entry, entry_at};
 use super::places::{LIST_LIMIT, LOG_SIZE};
 use super::seeing::seen;
-use judging::{Planned, SeenWay, plan_of, remembers};
+use judging::{Arrived, Planned, SeenWay, plan_of, remembers};
 use rules::Reason;
 
 // What a packet changed besides the clock and the remembered hashes.
@@ -50,20 +52,37 @@ fn effect_of(planned: Planned, is_data: bool) -> Effect
     }
 }
 
+// What a packet did that came after n entries. Not in line: the walk would clear the room for what is seen and planned
+// at each entry.
+#[inline(never)]
+fn packet_outcome(
+    log: &[u8; LOG_SIZE],
+    outcomes: &[Outcome; LIST_LIMIT],
+    n: usize,
+    packet: &[u8],
+    arrived: Arrived,
+) -> Outcome
+    requires { CanJudge log.now outcomes.now n packet.now }
+    ensures { (result.effect ≡ effect_of (came (arrival_of packet.now arrived)) (known_in log.now n))
+        × (result.kept ≡ keeps_hash (came (arrival_of packet.now arrived)) (known_in log.now n)) }
+{
+    let view = seen(log, outcomes, n, packet, arrived);
+    let planned = plan_of(&view, packet, arrived);
+    Outcome {
+        effect: effect_of(planned, packet::is_data(packet[0])),
+        kept: remembers(&view, packet, arrived, &planned),
+    }
+}
+
 // What entry i did, by those before it.
 fn outcome_at(log: &[u8; LOG_SIZE], outcomes: &[Outcome; LIST_LIMIT], i: usize) -> Outcome
     requires { CanAsk log.now outcomes.now i × KeptOf log.now outcomes.now i × (i < list_limit) }
     ensures { (result.effect ≡ effect_of (entry_of (entry_bytes log.now i)) (known_in log.now i))
         × (result.kept ≡ keeps_hash (entry_of (entry_bytes log.now i)) (known_in log.now i)) }
 {
-    let Entry::Came(packet, arrived) = entry_at(log, i) else {
-        return IDLE;
-    };
-    let view = seen(log, outcomes, i, packet, arrived);
-    let planned = plan_of(&view, packet, arrived);
-    Outcome {
-        effect: effect_of(planned, packet::is_data(packet[0])),
-        kept: remembers(&view, packet, arrived, &planned),
+    match entry_at(log, i) {
+        Entry::Came(packet, arrived) => packet_outcome(log, outcomes, i, packet, arrived),
+        _ => IDLE,
     }
 }
 

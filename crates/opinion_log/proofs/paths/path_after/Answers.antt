@@ -67,22 +67,30 @@ pub returns-in_default-effect : goal.returns-in_default-effect
 unfolding after_call renumbered_known now_clock change_path now_path now_port now_rate now_local now_under ◌then◌otherwise◌ rename_slot rename_path limited_path seen_at
 returns-in_default-effect c = grind (arith, tests, after_called, path_stays, one_more c.args.log.now c.args.i _ c.entry_at.ensures.0)
 
-pub returns-in-Marks : goal.returns-in-Marks
+pub returns-else-eq : goal.returns-else-eq
 unfolding after_call renumbered_known now_clock change_path now_path now_port now_rate now_local now_under ◌then◌otherwise◌ rename_slot rename_path limited_path seen_at
-returns-in-Marks c = grind (arith, tests, after_called, with_path_mark, equal_is_same, same_eq, one_more c.args.log.now c.args.i _ c.entry_at.ensures.0)
+returns-else-eq c = grind (arith, tests, after_called, path_stays, equal_is_same, path_announced, path_limited, one_more c.args.log.now c.args.i _ c.entry_at.ensures.0)
 
-pub returns-in-Renumbers : goal.returns-in-Renumbers
+pub returns-in-Some : goal.returns-in-Some
 unfolding after_call renumbered_known now_clock change_path now_path now_port now_rate now_local now_under ◌then◌otherwise◌ rename_slot rename_path limited_path seen_at
-returns-in-Renumbers c = grind (arith, tests, after_called, one_more c.args.log.now c.args.i _ c.entry_at.ensures.0)
+returns-in-Some c = grind (arith, tests, after_called, with_path_mark, equal_is_same, same_eq, one_more c.args.log.now c.args.i _ c.entry_at.ensures.0)
 
-pub returns-in_default : goal.returns-in_default
+pub returns-in_default-path : goal.returns-in_default-path
 unfolding after_call renumbered_known now_clock change_path now_path now_port now_rate now_local now_under ◌then◌otherwise◌ rename_slot rename_path limited_path seen_at
-returns-in_default c = grind (arith, tests, after_called, path_stays, equal_is_same, path_announced, path_limited, one_more c.args.log.now c.args.i _ c.entry_at.ensures.0)
+returns-in_default-path c = grind (arith, tests, after_called, with_path_mark, equal_is_same, same_eq, one_more c.args.log.now c.args.i _ c.entry_at.ensures.0)
 
-pub returns-in_default-2 : goal.returns-in_default-2
+pub returns-else-eq-2 : goal.returns-else-eq-2
 unfolding after_call renumbered_known now_clock change_path now_path now_port now_rate now_local now_under ◌then◌otherwise◌ rename_slot rename_path limited_path seen_at
-returns-in_default-2 c = grind (arith, tests, after_called, equal_is_same, one_more c.args.log.now c.args.i _ c.entry_at.ensures.0)
+returns-else-eq-2 c = grind (arith, tests, after_called, equal_is_same, one_more c.args.log.now c.args.i _ c.entry_at.ensures.0)
 
-pub returns-in_default-3 : goal.returns-in_default-3
+pub returns-in-Some-path : goal.returns-in-Some-path
 unfolding after_call renumbered_known now_clock change_path now_path now_port now_rate now_local now_under ◌then◌otherwise◌ rename_slot rename_path limited_path seen_at
-returns-in_default-3 c = grind (arith, tests, after_called, one_more c.args.log.now c.args.i _ c.entry_at.ensures.0)
+returns-in-Some-path c = grind (arith, tests, after_called, one_more c.args.log.now c.args.i _ c.entry_at.ensures.0)
+
+pub returns-in_default-path-2 : goal.returns-in_default-path-2
+unfolding after_call renumbered_known now_clock change_path now_path now_port now_rate now_local now_under ◌then◌otherwise◌ rename_slot rename_path limited_path seen_at
+returns-in_default-path-2 c = grind (arith, tests, after_called, one_more c.args.log.now c.args.i _ c.entry_at.ensures.0)
+
+pub returns : goal.returns
+unfolding after_call renumbered_known now_clock change_path now_path now_port now_rate now_local now_under ◌then◌otherwise◌ rename_slot rename_path limited_path seen_at
+returns c = grind (arith, tests, after_called, one_more c.args.log.now c.args.i _ c.entry_at.ensures.0)

@@ -3,8 +3,8 @@ use Rattle.opinion_log.proofs.Walk.{fresh_path}
 use Rattle.opinion_log.proofs.Ported.{path_ports}
 use Rattle.opinion_log.proofs.paths.path_of.Goals as goal
 
-pub path_after-path-requires : goal.path_after-path-requires
-path_after-path-requires c = (omega arith, c.requires.1 c.loop-i.i c.loop-i-test.true, c.loop-i.invariant)
+pub path_after-requires : goal.path_after-requires
+path_after-requires c = (omega arith, c.requires.1 c.loop-i.i c.loop-i-test.true, c.loop-i.invariant)
 
 pub loop-i-init : goal.loop-i-init
 loop-i-init c = record { is = fresh_path _ _; fits = tt }
