@@ -56,8 +56,8 @@ fn put_entry(log: &mut [u8; LOG_SIZE], n: usize, head: [u8; BODY_AT], body: &[u8
     octets::set_at(log, COUNT_AT, n as u8 + 1);
 }
 
-// Lists one more call behind n. In line, so that each caller has the arm of its own kind alone: called, it took a port's
-// setting half as long again.
+// Lists one more call behind n. In line, so that each caller has the arm of its own kind alone: where it was called,
+// setting a port took more than half as long again.
 #[inline(always)]
 pub fn put(log: &mut [u8; LOG_SIZE], n: usize, call: Entry)
     requires { (n < list_limit) × CanPut call }

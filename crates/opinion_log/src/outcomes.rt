@@ -52,8 +52,8 @@ fn effect_of(planned: Planned, is_data: bool) -> Effect
     }
 }
 
-// What a packet did that came after n entries. Not in line: the walk would clear the room for what is seen and planned
-// at each entry.
+// What a packet that came after n entries did. Not in line: else the walk would clear, at each entry, the room for what
+// is seen and planned.
 #[inline(never)]
 fn packet_outcome(
     log: &[u8; LOG_SIZE],

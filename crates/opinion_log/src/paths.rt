@@ -14,8 +14,8 @@ use super::records::live_path;
 use judging::{SeenPath, announced_path, limited_path};
 use notes::Note;
 
-// After one more entry, of this effect. It writes only where the entry changes the path: a record handed over by value
-// at each entry, with its 64 blobs, took the walk over a log of marks up to twice as long.
+// Brings the path past one more entry, of this effect. It writes only where the entry changes the path: with a record
+// handed over by value at each entry, 64 blobs and all, the walk over a log of marks took up to twice as long.
 fn path_after(
     log: &[u8; LOG_SIZE],
     i: usize,
@@ -33,24 +33,24 @@ fn path_after(
                 Effect::AnnouncesPath => {
                     let rate = rate_at(log, i);
                     let mode = port_at(log, i, usize::from(arrived.port)).mode;
-                    let known = live_path(*path, arrived.clock);
-                    *path = Some(announced_path(rate, mode, known, packet, arrived));
+                    let live = live_path(*path, arrived.clock);
+                    *path = Some(announced_path(rate, mode, live, packet, arrived));
                 }
                 Effect::LimitsPath => {
                     let rate = rate_at(log, i);
-                    *path = path.map(|known| limited_path(rate, known, arrived.clock));
+                    *path = path.map(|record| limited_path(rate, record, arrived.clock));
                 }
                 _ => {}
             }
         }
         Entry::Marks(marked, _) if marked == destination => {
-            if let Some(known) = path {
-                known.notes = notes::noted(known.notes, Note::Unresponsive);
+            if let Some(record) = path {
+                record.notes = notes::noted(record.notes, Note::Unresponsive);
             }
         }
         Entry::Renumbers(images) => {
-            if let Some(known) = path {
-                known.port = image_of(images, known.port);
+            if let Some(record) = path {
+                record.port = image_of(images, record.port);
             }
         }
         _ => {}

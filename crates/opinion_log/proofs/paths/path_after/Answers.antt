@@ -32,7 +32,7 @@ announced_path-requires c =
     let is : came a ≡ entry_of (entry_bytes c.args.log.now c.args.i) = sym (ap call_of c.in-Came.is) ∙ c.entry_at.ensures.0 in
     let effect : effect_of (came a) k ≡ AnnouncesPath = ap (λ (x : Entry). effect_of x k) is ∙ sym c.requires.1 ∙ c.in-AnnouncesPath.is in
     let fine = rw c.in-Came.is at c.entry_at.ensures.1 in
-    (fine.0, announced_body a k effect, c.rate_at-rate.ensures.1, c.live_path-known.ensures.1, fine.1)
+    (fine.0, announced_body a k effect, c.rate_at-rate.ensures.1, c.live_path-live.ensures.1, fine.1)
 
 pub returns-in-AnnouncesPath : goal.returns-in-AnnouncesPath
 unfolding after_call renumbered_known now_clock change_path now_path now_port now_rate now_local now_under ◌then◌otherwise◌ rename_slot rename_path limited_path seen_at
@@ -43,10 +43,10 @@ returns-in-AnnouncesPath c =
     let effect : effect_of (came a) k ≡ AnnouncesPath = ap (λ (x : Entry). effect_of x k) is ∙ sym c.requires.1 ∙ c.in-AnnouncesPath.is in
     let ours : destination a ≡ c.args.destination =
     ap (λ (q : Parts). q.destination) (sym c.parts_of.ensures) ∙ same_eq _ _ (sym (equal_is_same _ _) ∙ sym c.eq.ensures ∙ c.if-eq.true) in
-    let seen = c.live_path-known.ensures.0 c.args.destination
+    let seen = c.live_path-live.ensures.0 c.args.destination
     ∙ ap (only_if (λ p. live a.clock p.expiry)) c.requires.2.is in
     record {
-      is = announce_step a k effect c.args.destination ours c.live_path-known.result seen c.rate_at-rate.result _ c.rate_at-rate.ensures.0
+      is = announce_step a k effect c.args.destination ours c.live_path-live.result seen c.rate_at-rate.result _ c.rate_at-rate.ensures.0
           (ap (λ (p : Port). p.mode) c.port_at-mode.ensures ∙ ap (λ (n : ℕ). (k.port n).mode) c.from.ensures) c.announced_path.result c.announced_path.ensures.0
           ∙ sym (ap (λ (x : Known). x.path c.args.destination) (one_more c.args.log.now c.args.i (came a) is));
       fits = c.announced_path.ensures.1;
